@@ -1,0 +1,26 @@
+-- The worked cases hold of the definitions: this is the one file outside the thermal rule's crate that opens the rule, to
+-- compute.
+-- Assumes nothing.
+use mathlib.Core.Path.{_≡_, refl}
+use mathlib.Core.List.{List, [], _∷_}
+use Prim.Native.Nat.{ℕ}
+use Rattle.thermal.specs.Rounding.{ceilDiv, raise}
+use Rattle.thermal.specs.Thermal.{steadyState, temperatureAfter}
+use Rattle.thermal.proofs.Thermal.{rule-keeps}
+use Rattle.frame.specs.Run.{change, job, step, raised}
+use Rattle.frame.specs.Limits.{margins}
+use Rattle.frame.specs.Plan.{leastOf, firstWithin, next, cost, least, leastVia, choice, plan, outcome}
+use Rattle.frame.specs.Table.{energyCells, temperatureCells, need}
+use Rattle.frame.specs.Cases.{Answer, Case, cases}
+
+abbrev given : List Case → List Answer
+given [] = []
+given (c ∷ cs) = c .given ∷ given cs
+
+abbrev printed : List Case → List Answer
+printed [] = []
+printed (c ∷ cs) = c .printed ∷ printed cs
+
+pub cases-hold : (T s : ℕ) → given (cases T s) ≡ printed (cases T s)
+unfolding margins outcome plan choice leastVia least cost next firstWithin leastOf raised step job change need energyCells temperatureCells raise ceilDiv steadyState temperatureAfter
+cases-hold T s = rw (rule-keeps T s) refl

@@ -1,0 +1,10 @@
+pub mod Cases
+pub mod Limits
+pub mod Run
+pub mod Slack
+pub mod Plan
+pub mod Demand2
+pub mod Demand3
+pub mod Words
+pub mod Table
+pub mod Margins

@@ -1,0 +1,142 @@
+-- The worked cases of document 01 ('One sheet, whole' and 'Near the mark, but wrong') as rows of one list: the printed sheet
+-- with the named fields changed, and the answer that document 01 prints. `proofs/Cases.antt` shows that the definitions give
+-- each of them. Every starred case is here, and after them the cases that pin what the starred ones leave open.
+-- Assumes nothing.
+use mathlib.Core.List.{List, [], _∷_}
+use Prim.Native.Nat.{ℕ, _+_, _*_}
+use lib.IntN.{ℤ, pos, negℤ}
+use lib.ListN.{getD}
+use Rattle.thermal.specs.Thermal.{steadyState, temperatureAfter}
+use Rattle.frame.specs.Sheet.{Sheet}
+use Rattle.frame.specs.Run.{State, start, exactRun}
+use Rattle.frame.specs.Limits.{Margins, margins}
+use Rattle.frame.specs.Demands.{Outcome, planned, noPlan}
+use Rattle.frame.specs.Plan.{frameOutcome}
+use Rattle.frame.specs.Table.{need}
+
+pub data Answer : Type 0 where
+  -- the levels, and the plan's time, energy and final temperature
+  plan : List ℕ → ℕ → ℕ → ℕ → Answer
+  -- a refusal's number
+  refused : ℕ → Answer
+  -- the margins of a measured list
+  measured : Margins → Answer
+  number : ℕ → Answer
+
+-- The plan's "total time, energy and final temperature of the run without grains"; "no plan" is refusal 10.
+abbrev pub answerOf : Sheet → Outcome → Answer
+answerOf s (planned js) = let b : State = exactRun s (start s) js in plan js b.time b.energy b.temperature
+answerOf s noPlan = refused 10
+
+-- The figure in row i and column j.
+abbrev pub entry : List (List ℕ) → ℕ → ℕ → ℕ
+entry rows i j = getD (getD rows i []) j 0
+
+-- A sheet by its lines: the figures of the H line, of the L lines, of the S lines and of the B lines.
+abbrev pub sheetOf : List ℕ → List ℕ → List (List ℕ) → List (List ℕ) → Sheet
+sheetOf H L S B =
+    record {
+      jobs = getD H 0 0;
+      levels = getD H 1 0;
+      startLevel = getD H 2 0;
+      deadline = getD H 3 0;
+      energyBudget = getD H 4 0;
+      temperatureLimit = getD H 5 0;
+      startTemperature = getD H 6 0;
+      resistance = getD H 7 0;
+      energyStep = getD H 8 0;
+      temperatureStep = getD H 9 0;
+      power = λ j. getD L j 0;
+      changeTime = λ p j. entry S (p * getD H 1 0 + j) 0;
+      changeEnergy = λ p j. entry S (p * getD H 1 0 + j) 1;
+      jobTime = λ i j. entry B (i * getD H 1 0 + j) 0;
+      jobEnergy = λ i j. entry B (i * getD H 1 0 + j) 1;
+      decay = λ i j. entry B (i * getD H 1 0 + j) 2;
+    }
+
+-- The printed sheet, with D, W, C, g and h as named.
+abbrev pub sheet : ℕ → ℕ → ℕ → ℕ → ℕ → Sheet
+sheet D W C g h =
+    sheetOf
+    (2 ∷ 2 ∷ 0 ∷ D ∷ W ∷ C ∷ 1000 ∷ 2000 ∷ g ∷ h ∷ [])
+    (10000 ∷ 20000 ∷ [])
+    ((0 ∷ 0 ∷ []) ∷ (2 ∷ 3 ∷ []) ∷ (1 ∷ 3 ∷ []) ∷ (0 ∷ 0 ∷ []) ∷ [])
+    ((30 ∷ 20 ∷ 32768 ∷ []) ∷ (18 ∷ 45 ∷ 32768 ∷ []) ∷ (28 ∷ 25 ∷ 32768 ∷ []) ∷ (15 ∷ 40 ∷ 32768 ∷ []) ∷ [])
+
+-- "A sheet of its own with one job, two equal levels, free changes, that has a plan".
+abbrev pub equalLevels : Sheet
+equalLevels =
+    sheetOf
+    (1 ∷ 2 ∷ 0 ∷ 50 ∷ 100 ∷ 2500 ∷ 1000 ∷ 2000 ∷ 10 ∷ 100 ∷ [])
+    (10000 ∷ 10000 ∷ [])
+    ((0 ∷ 0 ∷ []) ∷ (0 ∷ 0 ∷ []) ∷ (0 ∷ 0 ∷ []) ∷ (0 ∷ 0 ∷ []) ∷ [])
+    ((30 ∷ 20 ∷ 32768 ∷ []) ∷ (30 ∷ 20 ∷ 32768 ∷ []) ∷ [])
+
+-- A sheet of our own in which no two figures of one kind are alike, so that none can be taken for another; the first job
+-- changes level.
+abbrev pub unequal : Sheet
+unequal =
+    sheetOf
+    (2 ∷ 2 ∷ 1 ∷ 150 ∷ 100 ∷ 1625 ∷ 1000 ∷ 2000 ∷ 10 ∷ 25 ∷ [])
+    (7000 ∷ 13000 ∷ [])
+    ((0 ∷ 0 ∷ []) ∷ (5 ∷ 11 ∷ []) ∷ (3 ∷ 7 ∷ []) ∷ (0 ∷ 0 ∷ []) ∷ [])
+    ((100 ∷ 20 ∷ 16384 ∷ []) ∷ (61 ∷ 33 ∷ 32768 ∷ []) ∷ (90 ∷ 24 ∷ 8192 ∷ []) ∷ (47 ∷ 40 ∷ 49152 ∷ []) ∷ [])
+
+-- What the definitions give, and what document 01 prints.
+pub record Case : Type 0 where
+  pub given : Answer
+  pub printed : Answer
+
+-- A sheet planned: the answer.
+abbrev pub plans : Sheet → Answer → Case
+plans s printed = record { given = answerOf s (frameOutcome s); printed = printed }
+
+-- A list measured on a sheet: the three margins.
+abbrev pub measures : Sheet → List ℕ → ℤ → ℤ → ℤ → Case
+measures s js time energy temperature =
+    record {
+      given = measured (margins s js);
+      printed = measured (record { time = time; energy = energy; temperature = temperature });
+    }
+
+-- A figure by itself.
+abbrev pub gives : ℕ → ℕ → Case
+gives n printed = record { given = number n; printed = number printed }
+
+abbrev pub same : Answer
+same = plan (1 ∷ 0 ∷ []) 49 76 2250
+
+-- T and s, a temperature and a steady-state temperature, are those of the row "Decay 65,536: T": it holds for every two.
+abbrev pub cases : ℕ → ℕ → List Case
+cases T s =
+    -- the sheet as printed
+    plans (sheet 50 100 2500 10 100) same
+    -- "D 49: same. D 48: 10."
+    ∷ plans (sheet 49 100 2500 10 100) same
+    ∷ plans (sheet 48 100 2500 10 100) (refused 10)
+    -- "C 2499: 10. C 2499 and D 58: levels 0, 0; 58, 45, 1750."
+    ∷ plans (sheet 50 100 2499 10 100) (refused 10)
+    ∷ plans (sheet 58 100 2499 10 100) (plan (0 ∷ 0 ∷ []) 58 45 1750)
+    -- "h 300: 10, as 1,000 is raised to 1,200 and log then ends at 2,600."
+    ∷ plans (sheet 50 100 2500 10 300) (refused 10)
+    -- "W 78: same plan. W 77: 10. W 76 and g 1: same plan."
+    ∷ plans (sheet 50 78 2500 10 100) same
+    ∷ plans (sheet 50 77 2500 10 100) (refused 10)
+    ∷ plans (sheet 50 76 2500 1 100) same
+    -- "Levels 0, 1 measured: margins 3, 37, −250."
+    ∷ measures (sheet 50 100 2500 10 100) (0 ∷ 1 ∷ []) (pos 3) (pos 37) (negℤ (pos 250))
+    -- "Steady rise for 1,500 and 1,830: 274.5 gives 275."
+    ∷ gives (steadyState 1500 1830) 275
+    -- "Decay 1, T 1, steady rise 0: 1. Decay 65,536: T."
+    ∷ gives (temperatureAfter 1 0 1) 1
+    ∷ gives (temperatureAfter T s 65536) T
+    -- not starred: "With h 1000 the example keeps levels 1, 0"; it shuts out a temperature limit tested after raising
+    ∷ plans (sheet 50 100 2500 10 1000) same
+    -- not starred: two equal levels give "level 0"
+    ∷ plans equalLevels (plan (0 ∷ []) 30 20 1500)
+    -- not starred: "Its need is 1,144 words", and "need 4,194,304" for m 64, l 8, W 63, g 1, C 127, h 1
+    ∷ gives (need (sheet 50 100 2500 10 100)) 1144
+    ∷ gives (need (sheetOf (64 ∷ 8 ∷ 0 ∷ 0 ∷ 63 ∷ 127 ∷ 0 ∷ 0 ∷ 1 ∷ 1 ∷ []) [] [] [])) 4194304
+    -- by hand: 3 + 100 + 5 + 47 = 155, 7 + 20 + 11 + 40 = 78, and 1,000 goes to 250 + 1,050 = 1,300, then to 975 + 650 = 1,625
+    ∷ measures unequal (0 ∷ 1 ∷ []) (negℤ (pos 5)) (pos 22) (pos 0)
+    ∷ []

@@ -1,0 +1,87 @@
+-- Demands 2 and 3 and the table's words in the request's own words, over all lists of levels. Nothing here computes: the
+-- functions that do stand in `specs/Plan.antt`, and the proofs show that they give what is said here.
+-- Assumes nothing.
+use mathlib.Core.Logic.{_↔_}
+use mathlib.Core.Path.{_≡_}
+use mathlib.Core.List.{List, [], _∷_}
+use Prim.Native.Nat.{ℕ, _+_, _≤_, _<_}
+use lib.ListN.{length}
+use Rattle.frame.specs.Sheet.{Sheet}
+use Rattle.frame.specs.Run.{State, start, exact, raised, exactRun}
+use Rattle.frame.specs.Limits.{Meets, limitsBy, limits, tightened}
+
+-- Every level of a list is below l.
+abbrev pub Below : ℕ → List ℕ → Type 0
+Below l [] = Unit
+Below l (j ∷ js) = (j < l) × Below l js
+
+-- "a list is any m levels, each below l", for n jobs in place of m
+pub record LevelList (s : Sheet) (n : ℕ) (js : List ℕ) : Type 0 where
+  pub size : length js ≡ n
+  pub below : Below s.levels js
+
+-- A list for the next n jobs that stays "within the limits when rounded up to the grains", with the deadline d.
+pub record Keeps (s : Sheet) (d n : ℕ) (a : State) (js : List ℕ) : Type 0 where
+  pub levels : LevelList s n js
+  pub meets : Meets s (raised s) (limitsBy s d) a js
+
+-- The total time of a list, from a on; time is not rounded.
+abbrev pub endTime : Sheet → State → List ℕ → ℕ
+endTime s a js = (exactRun s a js) .time
+
+-- Lexicographic order (document 01: level order), the list itself included: it "compares two lists from the first job on;
+-- where they first differ, the lower level comes first".
+abbrev pub LexLe : List ℕ → List ℕ → Type 0
+LexLe [] ys = Unit
+LexLe (x ∷ xs) [] = ⊥
+LexLe (x ∷ xs) (y ∷ ys) = (x ≤ y) × (x ≡ y → LexLe xs ys)
+
+-- "of all lists of levels that stay within the limits when rounded up to the grains, the one of least time, and among equals
+-- the first in level order"
+pub record Best (s : Sheet) (n : ℕ) (a : State) (js : List ℕ) : Type 0 where
+  pub keeps : Keeps s s.deadline n a js
+  pub least : (xs : List ℕ) → Keeps s s.deadline n a xs → endTime s a js ≤ endTime s a xs
+  pub first : (xs : List ℕ) → Keeps s s.deadline n a xs → endTime s a xs ≡ endTime s a js → LexLe js xs
+
+-- What a planner can find: a plan, which is a list of levels, or "no plan".
+pub data Outcome : Type 0 where
+  planned : List ℕ → Outcome
+  noPlan : Outcome
+
+-- Demand 2: the plan is the best list, and "“no plan” is answered if there is no such list, and only then".
+abbrev pub Demand2 : Sheet → ℕ → State → Outcome → Type 0
+Demand2 s n a (planned js) = Best s n a js
+Demand2 s n a noPlan = (js : List ℕ) → ¬ Keeps s s.deadline n a js
+
+-- A list for the next n jobs that stays within W and C by the rounded rule, whatever time it takes: its own end is the
+-- deadline.
+abbrev pub Feasible : Sheet → ℕ → State → List ℕ → Type 0
+Feasible s n a js = Keeps s (endTime s a js) n a js
+
+-- "4,294,967,295 where no way exists"
+abbrev pub noWay : ℕ
+noWay = 4294967295
+
+-- x is "the least time in which the remaining jobs can be done within W and C by the rounded rule, or 4,294,967,295 where no
+-- way exists": n jobs, from the state a.
+pub record LeastTime (s : Sheet) (n : ℕ) (a : State) (x : ℕ) : Type 0 where
+  pub reached : x < noWay → (js : List ℕ) × Feasible s n a js × (endTime s a js ≡ a.time + x)
+  pub least : (js : List ℕ) → Feasible s n a js → a.time + x ≤ endTime s a js
+  pub none : (x ≡ noWay) ↔ ((js : List ℕ) → ¬ Feasible s n a js)
+
+-- A list that meets the tightened limits of demand 3, run without grains from the sheet's start.
+pub record Tight (s : Sheet) (js : List ℕ) : Type 0 where
+  pub levels : LevelList s s.jobs js
+  pub meets : Meets s exact (tightened s) (start s) js
+
+-- "that plan, run without grains, meets deadline, ration and ceiling after every job", and "takes no longer than any list"
+-- that meets the tightened limits
+pub record Sound (s : Sheet) (js : List ℕ) : Type 0 where
+  pub levels : LevelList s s.jobs js
+  pub meets : Meets s exact (limits s) (start s) js
+  pub no-slower : (xs : List ℕ) → Tight s xs → endTime s (start s) js ≤ endTime s (start s) xs
+
+-- Demand 3, on the outcome. "Where the answer is “no plan”, no list meets these tightened limits."
+abbrev pub Demand3 : Sheet → Outcome → Type 0
+Demand3 s (planned js) = Sound s js
+Demand3 s noPlan = (xs : List ℕ) → ¬ Tight s xs

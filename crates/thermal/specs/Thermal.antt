@@ -1,0 +1,18 @@
+-- The thermal model of document 01: how warm a voltage level gets in the end, and how far a job brings the temperature there.
+--
+-- Temperatures are hundredths of a kelvin above the rock temperature at the logger, powers milliwatts, the thermal
+-- resistance millikelvins per watt, a decay a whole number out of 65,536. TCEC, equation (6), has the same rule in real
+-- numbers: T(i) = (1 - β) T_s + β T(i - 1), with β the decay and T_s the steady-state temperature of the level.
+-- Assumes nothing.
+use Prim.Native.Nat.{ℕ, _+_, _*_, _-_, _/_}
+use Rattle.thermal.specs.Rounding.{ceilDiv}
+
+-- The steady-state temperature of a level (document 01: steady rise): "P × R / 10,000 to the nearest whole number, an
+-- exact half upwards".
+unfoldable pub steadyState : ℕ → ℕ → ℕ
+steadyState power resistance = (power * resistance + 5000) / 10000
+
+-- The temperature after a job (document 01: the thermal rule): "Its temperature T becomes
+-- (decay × T + (65,536 − decay) × steady rise) / 65,536, rounded up".
+unfoldable pub temperatureAfter : ℕ → ℕ → ℕ → ℕ
+temperatureAfter temperature steady decay = ceilDiv (decay * temperature + (65536 - decay) * steady) 65536
