@@ -9,18 +9,19 @@ use Rattle.thermal.specs.Thermal.{steadyState, temperatureAfter}
 use Rattle.thermal.proofs.Thermal.{rule-keeps}
 use Rattle.frame.specs.Run.{change, job, step, raised}
 use Rattle.frame.specs.Limits.{margins}
-use Rattle.frame.specs.Plan.{leastOf, firstWithin, next, cost, least, leastVia, choice, plan, outcome}
-use Rattle.frame.specs.Table.{energyCells, temperatureCells, need}
+use Rattle.frame.specs.Demands.{figures}
+use Rattle.frame.specs.Plan.{leastOf, firstWithin, next, cost, least, via, choice, plan, outcome}
+use Rattle.frame.specs.Table.{energyCells, temperatureCells, need, place}
 use Rattle.frame.specs.Cases.{Answer, Case, cases}
 
 abbrev given : List Case → List Answer
 given [] = []
 given (c ∷ cs) = c .given ∷ given cs
 
-abbrev printed : List Case → List Answer
-printed [] = []
-printed (c ∷ cs) = c .printed ∷ printed cs
+abbrev expected : List Case → List Answer
+expected [] = []
+expected (c ∷ cs) = c .expected ∷ expected cs
 
-pub cases-hold : (T s : ℕ) → given (cases T s) ≡ printed (cases T s)
-unfolding margins outcome plan choice leastVia least cost next firstWithin leastOf raised step job change need energyCells temperatureCells raise ceilDiv steadyState temperatureAfter
+pub cases-hold : (T s : ℕ) → given (cases T s) ≡ expected (cases T s)
+unfolding margins figures outcome plan choice via least cost next firstWithin leastOf raised step job change need place energyCells temperatureCells raise ceilDiv steadyState temperatureAfter
 cases-hold T s = rw (rule-keeps T s) refl

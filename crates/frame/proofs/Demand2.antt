@@ -9,7 +9,7 @@ use borrow.Author.Tests.{le-leb, lt-leb}
 use Rattle.frame.specs.Sheet.{Sheet}
 use Rattle.frame.specs.Run.{State, exact, raised}
 use Rattle.frame.specs.Plan.{least, choice, plan, outcome}
-use Rattle.frame.specs.Demands.{LexLe, Keeps, endTime, Best, Outcome, planned, noPlan, Demand2, noWay}
+use Rattle.frame.specs.Demands.{LexLe, Keeps, endTime, Best, Outcome, planned, noPlan, Demand2, infeasible}
 use Rattle.frame.proofs.Run.{same-time, raised-time, run-later, meets-by, meets-time}
 use Rattle.frame.proofs.Plan.{keeps-least, choice-keeps, choice-first}
 
@@ -54,7 +54,7 @@ module _ (s : Sheet) (n : ℕ) (a : State) where
   least-end d js k =
       keeps-least s (endTime s a js) n a js (run-later s exact (λ b. refl) js a) (keeps-by d (endTime s a js) js (omega arith) k)
 
-  module _ (cool : a.peak ≤ s.temperatureLimit) (short : least s n a < noWay) where
+  module _ (cool : a.peak ≤ s.temperatureLimit) (short : least s n a < infeasible) where
     -- The plan ends at the least time, and keeps the limits by it.
     pub plan-keeps : Keeps s (a.time + least s n a) n a (plan s n a)
     unfolding plan
@@ -80,7 +80,7 @@ module _ (s : Sheet) (n : ℕ) (a : State) where
         }
 
   -- Demand 2, from any state that is within the temperature limit and the deadline.
-  pub demand2 : s.deadline < noWay → a.peak ≤ s.temperatureLimit → a.time ≤ s.deadline → Demand2 s n a (outcome s n a)
+  pub demand2 : s.deadline < infeasible → a.peak ≤ s.temperatureLimit → a.time ≤ s.deadline → Demand2 s n a (outcome s n a)
   unfolding outcome
   demand2 small cool soon =
       elim (decLe (a.time + least s n a) s.deadline) [

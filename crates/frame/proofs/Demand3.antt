@@ -1,5 +1,5 @@
--- Demand 3 follows from demand 2 in words: (c) the plan takes no longer than any list that meets the tightened limits, and
--- where there is no plan there is no such list.
+-- Demand 3 follows from demand 2 in words: a plan is sound in the exact run and takes no longer than any list that meets the
+-- tightened limits, and where there is no plan there is no such list.
 -- Assumes nothing.
 use mathlib.Core.Path.{_≡_}
 use mathlib.Core.List.{List, [], _∷_}
@@ -8,11 +8,11 @@ use native.Mathlib.Nat.{mul-le-mul-right}
 use native.Mathlib.Omega.{arith}
 use lib.ListN.{length}
 use Rattle.frame.specs.Sheet.{Sheet, Ranges}
-use Rattle.frame.specs.Run.{start}
-use Rattle.frame.specs.Limits.{limits, energySlack, temperatureSlack, tightened}
+use Rattle.frame.specs.Run.{State, start}
+use Rattle.frame.specs.Limits.{Limits, limits, energySlack, temperatureSlack, tightened}
 use Rattle.frame.specs.Plan.{frameOutcome}
 use Rattle.frame.specs.Demands.{Keeps, Outcome, planned, noPlan, Demand2, Tight, Demand3}
-use Rattle.frame.proofs.Limits.{at-most-sub, Tighter, tighter-less}
+use Rattle.frame.proofs.Limits.{at-most-sub, Tighter}
 use Rattle.frame.proofs.Slack.{rounded-sound, tighter-keeps}
 use Rattle.frame.proofs.Demand2.{demand2}
 
@@ -35,29 +35,33 @@ module _ (s : Sheet) (ok : Ranges s) where
   unfolding temperatureSlack
   temperature-raises j js l = mul-le-mul-right (s.temperatureStep - 1) (omega arith)
 
-  -- A list that meets the tightened limits without grains keeps the limits when rounded.
-  tight-keeps : (js : List ℕ) → Tight s js → Keeps s s.deadline s.jobs (start s) js
-  tight-keeps [] t = absurd (omega (arith, t .levels .size, ok .jobs .0))
+  -- A list that meets the tightened limits in the exact run keeps the limits when rounded.
+  tight-keeps : (js : List ℕ) → Tight s (tightened s) s.jobs (start s) js → Keeps s s.deadline s.jobs (start s) js
+  tight-keeps [] t = absurd (omega (arith, t .levels .size, ok .jobs .low))
   tight-keeps (j ∷ js) t =
       let l = t .levels .size in
-      let c = tighter-less _ _ _ _ (limits s) (tightened s) (energy-raises j js l) (temperature-raises j js l) tightened-tighter in
       record {
         levels = t .levels;
-        meets = tighter-keeps s ok (limits s) (tightened s) 0 s.startLevel s.startTemperature j js c (t .meets);
+        meets =
+            tighter-keeps s ok (limits s) (tightened s) (energySlack s) (temperatureSlack s) tightened-tighter 0 s.startLevel s.startTemperature j js
+            (energy-raises j js l) (temperature-raises j js l) (t .meets);
       }
 
-  pub demand3 : (o : Outcome) → Demand2 s s.jobs (start s) o → Demand3 s o
-  demand3 (planned js) b =
+  -- Demand 3 from demand 2 in words, where the lists that meet the tightened limits keep the limits when rounded.
+  pub demand3 : (k : Limits) (n : ℕ) (a : State) → ((xs : List ℕ) → Tight s k n a xs → Keeps s s.deadline n a xs) →
+      (o : Outcome) → Demand2 s n a o → Demand3 s k n a o
+  demand3 k n a f (planned js) b =
       record {
         levels = b .keeps .levels;
-        meets = rounded-sound s ok (limits s) js (start s) (b .keeps .meets);
-        no-slower = λ xs t. b .least xs (tight-keeps xs t);
+        meets = rounded-sound s ok (limits s) js a (b .keeps .meets);
+        no-slower = λ xs t. b .least xs (f xs t);
       }
-  demand3 noPlan f = λ xs t. f xs (tight-keeps xs t)
+  demand3 k n a f noPlan b = λ xs t. b xs (f xs t)
 
-  -- Demands 2 and 3 of the sheet's own frame.
+  -- ---- the sheet's own frame
+
   pub frame-demand2 : Demand2 s s.jobs (start s) (frameOutcome s)
   frame-demand2 = demand2 s s.jobs (start s) (omega (arith, ok .deadline)) (omega arith) (omega arith)
 
-  pub frame-demand3 : Demand3 s (frameOutcome s)
-  frame-demand3 = demand3 (frameOutcome s) frame-demand2
+  pub frame-demand3 : Demand3 s (tightened s) s.jobs (start s) (frameOutcome s)
+  frame-demand3 = demand3 (tightened s) s.jobs (start s) tight-keeps (frameOutcome s) frame-demand2

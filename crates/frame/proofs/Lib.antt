@@ -1,4 +1,5 @@
 pub mod Cases
+pub mod Witness
 pub mod Limits
 pub mod Run
 pub mod Slack

@@ -13,8 +13,8 @@ use borrow.Author.Tests.{leb-true, le-leb, lt-leb}
 use Rattle.frame.specs.Sheet.{Sheet}
 use Rattle.frame.specs.Run.{State, change, job, step, raised}
 use Rattle.frame.specs.Limits.{Within, Meets, limitsBy}
-use Rattle.frame.specs.Plan.{leastOf, firstWithin, next, cost, least, leastVia, choice}
-use Rattle.frame.specs.Demands.{Below, LexLe, Keeps, noWay}
+use Rattle.frame.specs.Plan.{leastOf, firstWithin, next, cost, least, via, choice}
+use Rattle.frame.specs.Demands.{Below, LexLe, Keeps, infeasible}
 
 -- ---- the least of k numbers, and the first that is small enough
 
@@ -27,12 +27,12 @@ least-of-le (suc k) f j h =
       | no l ↦ let q : j ≡ k = omega arith in omega (arith, ap f q)
     ]
 
-pub least-of-bounded : (k : ℕ) (f : ℕ → ℕ) → leastOf k f ≤ noWay
+pub least-of-bounded : (k : ℕ) (f : ℕ → ℕ) → leastOf k f ≤ infeasible
 unfolding leastOf
 least-of-bounded zero f = omega arith
 least-of-bounded (suc k) f = omega (arith, least-of-bounded k f)
 
-module _ (f : ℕ → ℕ) (x : ℕ) (small : x < noWay) where
+module _ (f : ℕ → ℕ) (x : ℕ) (small : x < infeasible) where
   -- Where the least is at most x, the first place is one where f is.
   pub first-within : (k : ℕ) → leastOf k f ≤ x → (firstWithin k f x < k) × (f (firstWithin k f x) ≤ x)
   unfolding leastOf firstWithin
@@ -57,7 +57,7 @@ module _ (f : ℕ → ℕ) (x : ℕ) (small : x < noWay) where
             ]
       ]
 
-cond-le : (b : Bool) (x y : ℕ) → y < noWay → cond b x noWay ≤ y → (b ≡ true) × (x ≤ y)
+cond-le : (b : Bool) (x y : ℕ) → y < infeasible → cond b x infeasible ≤ y → (b ≡ true) × (x ≤ y)
 cond-le true x y l h = (refl, h)
 cond-le false x y l h = absurd (omega arith)
 
@@ -68,12 +68,12 @@ module _ (s : Sheet) where
   unfolding cost
   cost-le b r u h = rw (le-leb b.energy s.energyBudget u, le-leb b.peak s.temperatureLimit h) (omega arith)
 
-  cost-lt : (b : State) (r x : ℕ) → x < noWay → cost s b r ≤ x →
+  cost-lt : (b : State) (r x : ℕ) → x < infeasible → cost s b r ≤ x →
       (b.energy ≤ s.energyBudget) × (b.peak ≤ s.temperatureLimit) × (b.time + r ≤ x)
   unfolding cost
   cost-lt b r x l h =
       let u = cond-le (leb b.energy s.energyBudget) _ x l h in
-      let v = cond-le (leb b.peak s.temperatureLimit) (min noWay (b.time + r)) x l (u .1) in
+      let v = cond-le (leb b.peak s.temperatureLimit) (min infeasible (b.time + r)) x l (u .1) in
       let w = v .1 in
       (leb-true _ _ (u .0), leb-true _ _ (v .0), omega arith)
 
@@ -82,7 +82,7 @@ module _ (s : Sheet) where
   -- The time and the peak so far do not count.
   pub least-from : (n : ℕ) (a b : State) → a.done ≡ b.done → a.level ≡ b.level → a.energy ≡ b.energy → a.temperature ≡ b.temperature →
       least s n a ≡ least s n b
-  unfolding least next step change job raised
+  unfolding least via next step change job raised
   least-from zero a b d l e t = refl
   least-from (suc n) a b d l e t = rw (d, l, e, t) refl
 
@@ -99,15 +99,15 @@ module _ (s : Sheet) where
 
   -- Level j first and then the least time: a list that can be done by d makes the way short, and a short way can be done by d.
   via-le : (d n : ℕ) (a : State) (j : ℕ) → Within (limitsBy s d) (step s (raised s a) j) →
-      (step s (raised s a) j) .time + least s n (step s (raised s a) j) ≤ d → a.time + leastVia s n a j ≤ d
-  unfolding leastVia
+      (step s (raised s a) j) .time + least s n (step s (raised s a) j) ≤ d → a.time + via s (least s n) a j ≤ d
+  unfolding via
   via-le d n a j w h =
       let q = next-step a j in
       omega (arith, least-next n a j, cost-le (next s a j) (least s n (next s a j)) (omega arith) (omega arith))
 
-  via-lt : (d n : ℕ) (a : State) (j x : ℕ) → x < noWay → a.time + x ≤ d → a.peak ≤ s.temperatureLimit → leastVia s n a j ≤ x →
+  via-lt : (d n : ℕ) (a : State) (j x : ℕ) → x < infeasible → a.time + x ≤ d → a.peak ≤ s.temperatureLimit → via s (least s n) a j ≤ x →
       Within (limitsBy s d) (step s (raised s a) j) × ((next s a j) .time + least s n (step s (raised s a) j) ≤ x)
-  unfolding leastVia
+  unfolding via
   via-lt d n a j x l c p h =
       let q = next-step a j in
       let u = cost-lt (next s a j) (least s n (next s a j)) x l h in
@@ -118,17 +118,17 @@ module _ (s : Sheet) (d : ℕ) where
   -- Where a list keeps the limits by d, the least time keeps d.
   pub least-le : (js : List ℕ) (a : State) → Below s.levels js → Meets s (raised s) (limitsBy s d) a js → a.time ≤ d →
       a.time + least s (length js) a ≤ d
-  unfolding least leastVia
+  unfolding least
   least-le [] a b w h = omega arith
   least-le (j ∷ js) a b w h =
       let r = least-le js (step s (raised s a) j) (b .1) (w .1) (w .0 .time) in
-      omega (arith, via-le s d (length js) a j (w .0) r, least-of-le s.levels (leastVia s (length js) a) j (b .0))
+      omega (arith, via-le s d (length js) a j (w .0) r, least-of-le s.levels (via s (least s (length js)) a) j (b .0))
 
   pub keeps-least : (n : ℕ) (a : State) (js : List ℕ) → a.time ≤ d → Keeps s d n a js → a.time + least s n a ≤ d
   keeps-least n a js h k = rw (k .levels .size) at (least-le js a (k .levels .below) (k .meets) h)
 
   -- No list that keeps the limits by d comes before the choice.
-  pub choice-first : (js : List ℕ) (a : State) (x : ℕ) → x < noWay → d ≤ a.time + x → a.time ≤ d → Below s.levels js →
+  pub choice-first : (js : List ℕ) (a : State) (x : ℕ) → x < infeasible → d ≤ a.time + x → a.time ≤ d → Below s.levels js →
       Meets s (raised s) (limitsBy s d) a js → LexLe (choice s (length js) a x) js
   unfolding choice
   choice-first [] a x l c h b w = tt
@@ -136,18 +136,18 @@ module _ (s : Sheet) (d : ℕ) where
       let r = least-le js (step s (raised s a) j) (b .1) (w .1) (w .0 .time) in
       let q = next-step s a j in
       let u = via-le s d (length js) a j (w .0) r in (
-        first-le (leastVia s (length js) a) x l s.levels j (b .0) (omega arith),
+        first-le (via s (least s (length js)) a) x l s.levels j (b .0) (omega arith),
         λ z. rw z (choice-first js (step s (raised s a) j) (x - (next s a j) .time) (omega arith) (omega arith) (w .0 .time) (b .1) (w .1)),
       )
 
   -- The choice keeps the limits by d.
-  pub choice-keeps : (n : ℕ) (a : State) (x : ℕ) → x < noWay → a.time + x ≤ d → a.peak ≤ s.temperatureLimit → least s n a ≤ x →
+  pub choice-keeps : (n : ℕ) (a : State) (x : ℕ) → x < infeasible → a.time + x ≤ d → a.peak ≤ s.temperatureLimit → least s n a ≤ x →
       Keeps s d n a (choice s n a x)
-  unfolding choice least leastVia
+  unfolding choice least
   choice-keeps zero a x l c p h = record { levels = record { size = refl; below = tt }; meets = tt }
   choice-keeps (suc n) a x l c p h =
-      let j = firstWithin s.levels (leastVia s n a) x in
-      let f = first-within (leastVia s n a) x l s.levels h in
+      let j = firstWithin s.levels (via s (least s n) a) x in
+      let f = first-within (via s (least s n) a) x l s.levels h in
       let u = via-lt s d n a j x l c p (f .1) in
       let q = next-step s a j in
       let r = choice-keeps n (step s (raised s a) j) (x - (next s a j) .time) (omega arith) (omega arith) (u .0 .temperature) (omega arith) in

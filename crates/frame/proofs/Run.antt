@@ -1,14 +1,24 @@
 -- What holds of both runs: time never falls, and is not rounded; the peak is the highest temperature at a job end.
 -- Assumes nothing.
 use mathlib.Core.Logic.{_↔_}
-use mathlib.Core.Path.{_≡_, refl, ap}
+use mathlib.Core.Path.{_≡_, refl, ap, _∙_}
 use mathlib.Core.List.{List, [], _∷_}
 use Prim.Native.Nat.{ℕ, suc, _≤_, max}
 use native.Mathlib.Omega.{arith}
 use Rattle.frame.specs.Sheet.{Sheet}
-use Rattle.frame.specs.Run.{State, change, job, step, raised, run, exactRun, roundedRun}
-use Rattle.frame.specs.Limits.{Limits, AtMost, Within, Meets, limitsBy}
-use Rattle.frame.proofs.Limits.{at-most-max}
+use Rattle.frame.specs.Run.{State, fresh, change, job, step, raised, run, exactRun, roundedRun}
+use Rattle.frame.specs.Limits.{Limits, AtMost, Meets, limitsBy}
+use Rattle.frame.proofs.Limits.{at-most-less, at-most-max}
+
+-- Document 01's words without a peak: the figures of a job end, and of every job end.
+pub record AtEnd (k : Limits) (a : State) : Type 0 where
+  pub time : AtMost a.time k.time
+  pub energy : AtMost a.energy k.energy
+  pub temperature : AtMost a.temperature k.temperature
+
+abbrev pub AtEachEnd : Sheet → (State → State) → Limits → State → List ℕ → Type 0
+AtEachEnd s r k a [] = Unit
+AtEachEnd s r k a (j ∷ js) = AtEnd k (step s (r a) j) × AtEachEnd s r k (step s (r a) j) js
 
 module _ (s : Sheet) where
   -- ---- time
@@ -47,11 +57,26 @@ module _ (s : Sheet) where
   unfolding step change job
   step-peak a j = refl
 
-  -- Where the job ends so far meet the temperature limit, `Within` tests this job's end: document 01's words.
-  pub within-step : (k : Limits) (a : State) (j : ℕ) → AtMost a.peak k.temperature →
-      Within k (step s a j) ↔ (AtMost ((step s a j) .time) k.time × AtMost ((step s a j) .energy) k.energy × AtMost ((step s a j) .temperature) k.temperature)
-  within-step k a j h =
-      let m = at-most-max a.peak ((step s a j) .temperature) k.temperature in (
-        λ w. (w .time, w .energy, m .0 (rw (step-peak a j) at (w .temperature)) .1),
-        λ w. record { time = w .0; energy = w .1; temperature = rw (step-peak a j) (m .1 (h, w .2)) },
-      )
+  module _ (r : State → State) (f : (a : State) → (r a) .peak ≡ a.peak) (k : Limits) where
+    -- Where the peak so far breaks no limit, `Within` tests this job's end.
+    each-end : (js : List ℕ) (a : State) → ((x : ℕ) → AtMost x k.temperature → AtMost (max a.peak x) k.temperature) →
+        Meets s r k a js ↔ AtEachEnd s r k a js
+    each-end [] a h = ((λ w. tt), (λ w. tt))
+    each-end (j ∷ js) a h =
+        let b = step s (r a) j in
+        let q : b.peak ≡ max a.peak b.temperature = step-peak (r a) j ∙ ap (λ (p : ℕ). max p b.temperature) (f a) in
+        let m = at-most-max a.peak b.temperature k.temperature in
+        let rest : AtMost b.peak k.temperature → Meets s r k b js ↔ AtEachEnd s r k b js = λ v. each-end js b (λ x l. at-most-max b.peak x k.temperature .1 (v, l)) in (
+          λ w. (
+            record { time = w .0 .time; energy = w .0 .energy; temperature = m .0 (rw q at (w .0 .temperature)) .1 },
+            rest (w .0 .temperature) .0 (w .1),
+          ),
+          λ w. let v : AtMost b.peak k.temperature = rw q (h b.temperature (w .0 .temperature)) in (
+            record { time = w .0 .time; energy = w .0 .energy; temperature = v },
+            rest v .1 (w .1),
+          ),
+        )
+
+    -- From a fresh state, whatever the limits: they are met after every job exactly where every job end's figures meet them.
+    pub meets-each-end : (i p e t : ℕ) (js : List ℕ) → Meets s r k (fresh i p e t) js ↔ AtEachEnd s r k (fresh i p e t) js
+    meets-each-end i p e t js = each-end js (fresh i p e t) (λ x m. at-most-less (max 0 x) x k.temperature (omega arith) m)

@@ -1,6 +1,6 @@
--- The two runs beside each other: the run without grains lies nowhere above the rounded run, and the rounded run not far
--- above it. Both are one law, `near-meets`, over what comes before each job. The thermal rule enters by its monotonicity and
--- its slack alone.
+-- The two runs beside each other: the exact run lies nowhere above the rounded run, and the rounded run not far above it.
+-- Both are one law, `near-meets`, over what comes before each job. The thermal rule enters by its monotonicity and its slack
+-- alone.
 -- Assumes nothing.
 use mathlib.Core.Path.{_≡_, refl, ap}
 use mathlib.Core.List.{List, [], _∷_}
@@ -57,31 +57,32 @@ module _ (s : Sheet) (ok : Ranges s) where
   unfolding step change
   near-step e t a b j h = near-job e t a.done j (change s a j) (change s b j) refl refl (near-change e t a b j h)
 
-  -- Two runs, r and q before each job, of which q lies at most u and v further above r each time: what the first meets of
-  -- limits that are tighter by u and v for each job, the second meets of the limits.
-  module _ (r q : State → State) (u v : ℕ) (f : (e t : ℕ) (a b : State) → Near e t a b → Near (e + u) (t + v) (r a) (q b)) where
-    pub near-meets : (k k′ : Limits) (js : List ℕ) (e t : ℕ) (a b : State) → Near e t a b →
-        Tighter (e + length js * u) (t + length js * v) k k′ → Meets s r k′ a js → Meets s q k b js
-    near-meets k k′ [] e t a b h c w = tt
-    near-meets k k′ (j ∷ js) e t a b h c w =
-        let h′ = near-step (e + u) (t + v) (r a) (q b) j (f e t a b h) in (
-          within-near (e + u) (t + v) k k′ _ _ (tighter-less _ _ _ _ k k′ (omega arith) (omega arith) c) h′ (w .0),
-          near-meets k k′ js (e + u) (t + v) _ _ h′ (tighter-less _ _ _ _ k k′ (omega arith) (omega arith) c) (w .1),
+  -- Two runs, with r and q before each job. While the second lies at most E and T above the first, q adds at most u and v to
+  -- that. What the first run meets of limits that are tighter by E and T, the second meets of the limits.
+  module _ (k k′ : Limits) (E T : ℕ) (c : Tighter E T k k′) (r q : State → State) (u v : ℕ)
+      (f : (e t : ℕ) (a b : State) → e ≤ E → t ≤ T → Near e t a b → Near (e + u) (t + v) (r a) (q b)) where
+    pub near-meets : (js : List ℕ) (e t : ℕ) (a b : State) → e + length js * u ≤ E → t + length js * v ≤ T → Near e t a b →
+        Meets s r k′ a js → Meets s q k b js
+    near-meets [] e t a b x y h w = tt
+    near-meets (j ∷ js) e t a b x y h w =
+        let h′ = near-step (e + u) (t + v) (r a) (q b) j (f e t a b (omega arith) (omega arith) h) in (
+          within-near (e + u) (t + v) k k′ _ _ (tighter-less (e + u) E (t + v) T k k′ (omega arith) (omega arith) c) h′ (w .0),
+          near-meets js (e + u) (t + v) _ _ (omega arith) (omega arith) h′ (w .1),
         )
 
-  -- ---- (a): the run without grains lies nowhere above the rounded run
+  -- ---- the exact run lies nowhere above the rounded run
 
-  below-raised : (e t : ℕ) (a b : State) → Near e t a b → Near (e + 0) (t + 0) (raised s a) b
+  below-raised : (e t : ℕ) (a b : State) → e ≤ 0 → t ≤ 0 → Near e t a b → Near (e + 0) (t + 0) (raised s a) b
   unfolding raised
-  below-raised e t a b h =
-      omega (arith, raise-ge s.energyStep a.energy (ok .energyStep .0), raise-ge s.temperatureStep a.temperature (ok .temperatureStep .0))
+  below-raised e t a b x y h =
+      omega (arith, raise-ge s.energyStep a.energy (ok .energyStep .low), raise-ge s.temperatureStep a.temperature (ok .temperatureStep .low))
 
-  -- A list that keeps the limits when rounded keeps them without grains, after every job.
+  -- A list that meets limits when rounded meets them in the exact run, after every job.
   pub rounded-sound : (k : Limits) (js : List ℕ) (a : State) → Meets s (raised s) k a js → Meets s exact k a js
   rounded-sound k js a w =
-      near-meets (raised s) exact 0 0 below-raised k k js 0 0 a a (near-self a) (tighter-less _ _ _ _ k k (omega arith) (omega arith) (tighter-same k)) w
+      near-meets k k 0 0 (tighter-same k) (raised s) exact 0 0 below-raised js 0 0 a a (omega arith) (omega arith) (near-self a) w
 
-  -- ---- (b): the rounded run lies at most one raise for each job above the run without grains
+  -- ---- the rounded run lies at most one raise for each job above the exact run
 
   above-raised : (e t : ℕ) (a b : State) → Near e t a b → Near (e + (s.energyStep - 1)) (t + (s.temperatureStep - 1)) a (raised s b)
   unfolding raised
@@ -90,17 +91,17 @@ module _ (s : Sheet) (ok : Ranges s) where
   -- At the start energy is 0 and is not raised.
   above-start : (i p t : ℕ) → Near 0 (s.temperatureStep - 1) (fresh i p 0 t) (raised s (fresh i p 0 t))
   unfolding raised
-  above-start i p t = omega (arith, raise-zero s.energyStep (ok .energyStep .0), raise-le s.temperatureStep t)
+  above-start i p t = omega (arith, raise-zero s.energyStep (ok .energyStep .low), raise-le s.temperatureStep t)
 
-  -- A list that meets, without grains, the limits tightened by one raise of the temperature for each job and one of the
-  -- energy for each job but the first keeps the limits when rounded.
-  pub tighter-keeps : (k k′ : Limits) (i p t j : ℕ) (js : List ℕ) →
-      Tighter (length js * (s.energyStep - 1)) (length (j ∷ js) * (s.temperatureStep - 1)) k k′ →
+  -- A list that meets, in the exact run, limits tightened by one raise of the temperature for each job and one of the energy
+  -- for each job but the first meets the limits when rounded.
+  pub tighter-keeps : (k k′ : Limits) (E T : ℕ) → Tighter E T k k′ → (i p t j : ℕ) (js : List ℕ) →
+      length js * (s.energyStep - 1) ≤ E → length (j ∷ js) * (s.temperatureStep - 1) ≤ T →
       Meets s exact k′ (fresh i p 0 t) (j ∷ js) → Meets s (raised s) k (fresh i p 0 t) (j ∷ js)
-  tighter-keeps k k′ i p t j js c w =
+  tighter-keeps k k′ E T c i p t j js x y w =
       let u = s.energyStep - 1 in
       let v = s.temperatureStep - 1 in
       let h = near-step 0 v (fresh i p 0 t) (raised s (fresh i p 0 t)) j (above-start i p t) in (
-        within-near 0 v k k′ _ _ (tighter-less _ _ _ _ k k′ (omega arith) (omega arith) c) h (w .0),
-        near-meets exact (raised s) u v above-raised k k′ js 0 v _ _ h (tighter-less _ _ _ _ k k′ (omega arith) (omega arith) c) (w .1),
+        within-near 0 v k k′ _ _ (tighter-less 0 E v T k k′ (omega arith) (omega arith) c) h (w .0),
+        near-meets k k′ E T c exact (raised s) u v (λ e d a b _ _ n. above-raised e d a b n) js 0 v _ _ (omega arith) (omega arith) h (w .1),
       )

@@ -1,14 +1,14 @@
 -- Places of the table, and words from later words.
 -- Assumes nothing.
-use mathlib.Core.Path.{_≡_, refl, sym, _∙_}
+use mathlib.Core.Path.{_≡_, refl, sym, ap, fun-ext, _∙_}
 use Prim.Native.Nat.{ℕ, suc, _+_, _*_, _-_, _/_, _%_, _≤_, _<_}
 use native.Mathlib.Nat.{mul-le-mul-right, div-eq-of-lt-le, mul-add-mod-self-right, mod-eq-of-lt, mod-lt, div-lt-iff-lt-mul, div-add-mod'}
 use native.Mathlib.Omega.{arith}
 use Rattle.thermal.specs.Rounding.{ceilDiv, raise}
-use Rattle.thermal.proofs.Rounding.{ceil-mono, raise-twice}
+use Rattle.thermal.proofs.Rounding.{ceil-least, ceil-mono, raise-twice}
 use Rattle.frame.specs.Sheet.{Sheet, Ranges}
-use Rattle.frame.specs.Run.{State, raised}
-use Rattle.frame.specs.Plan.{next, least}
+use Rattle.frame.specs.Run.{State, start, raised}
+use Rattle.frame.specs.Plan.{leastOf, next, cost, via, least}
 use Rattle.frame.specs.Table.{energyCells, temperatureCells, need, place, word, doneAt, levelAt, energyCellAt, temperatureCellAt, wordAt}
 use Rattle.frame.proofs.Plan.{least-from}
 
@@ -69,11 +69,11 @@ module _ (s : Sheet) (ok : Ranges s) (k : ℕ) where
   pub done-at-lt : k < need s → doneAt s k < s.jobs
   unfolding need doneAt
   done-at-lt h =
-      div-lt-iff-lt-mul (ok .levels .0) .1 (div-lt-iff-lt-mul energy-cells-some .1 (div-lt-iff-lt-mul temperature-cells-some .1 h))
+      div-lt-iff-lt-mul (ok .levels .low) .1 (div-lt-iff-lt-mul energy-cells-some .1 (div-lt-iff-lt-mul temperature-cells-some .1 h))
 
   pub level-at-lt : levelAt s k < s.levels
   unfolding levelAt
-  level-at-lt = mod-lt _ (ok .levels .0)
+  level-at-lt = mod-lt _ (ok .levels .low)
 
   pub energy-cell-at-lt : energyCellAt s k < energyCells s
   unfolding energyCellAt
@@ -89,16 +89,21 @@ module _ (s : Sheet) (ok : Ranges s) where
   -- Energy within W and temperature within C are raised to cells of the table.
   pub energy-cell : (e : ℕ) → e ≤ s.energyBudget → ceilDiv e s.energyStep < energyCells s
   unfolding energyCells
-  energy-cell e h = omega (arith, ceil-mono e s.energyBudget s.energyStep (ok .energyStep .0) h)
+  energy-cell e h = omega (arith, ceil-mono e s.energyBudget s.energyStep (ok .energyStep .low) h)
 
   pub temperature-cell : (t : ℕ) → t ≤ s.temperatureLimit → ceilDiv t s.temperatureStep < temperatureCells s
   unfolding temperatureCells
-  temperature-cell t h = omega (arith, ceil-mono t s.temperatureLimit s.temperatureStep (ok .temperatureStep .0) h)
+  temperature-cell t h = omega (arith, ceil-mono t s.temperatureLimit s.temperatureStep (ok .temperatureStep .low) h)
 
-  -- Where a job is still to be done, a raised state has the same least time.
+  -- Raising twice is raising once, so where a job is still to be done a raised state has the same least time.
+  next-raised : (a : State) (j : ℕ) → next s (raised s a) j ≡ next s a j
+  unfolding next raised
+  next-raised a j =
+      rw (raise-twice s.energyStep a.energy (ok .energyStep .low), raise-twice s.temperatureStep a.temperature (ok .temperatureStep .low)) refl
+
   pub least-raised : (n : ℕ) (a : State) → least s (suc n) (raised s a) ≡ least s (suc n) a
-  unfolding least next raised
-  least-raised n a = rw (raise-twice s.energyStep a.energy (ok .energyStep .0), raise-twice s.temperatureStep a.temperature (ok .temperatureStep .0)) refl
+  unfolding least via
+  least-raised n a = ap (leastOf s.levels) (fun-ext (λ j. ap (λ (b : State). cost s b (least s n b)) (next-raised a j)))
 
   -- The least time of the remaining jobs is a word of the table: that of the cell to which the state is raised. So the start
   -- state has a word, and a word is made of the words of one more job done.
@@ -108,3 +113,10 @@ module _ (s : Sheet) (ok : Ranges s) where
   least-word a h =
       let n : s.jobs - a.done ≡ suc (s.jobs - suc a.done) = omega arith in
       rw n (sym (least-raised (s.jobs - suc a.done) a) ∙ least-from s (suc (s.jobs - suc a.done)) (raised s a) _ refl refl refl refl)
+
+  -- The start state's word, with which the deadline is compared: energy 0 is cell 0.
+  pub start-word : least s s.jobs (start s) ≡ word s 0 s.startLevel 0 (ceilDiv s.startTemperature s.temperatureStep)
+  start-word =
+      let z : ceilDiv 0 s.energyStep ≡ 0 = omega (arith, ceil-least 0 s.energyStep 0 (ok .energyStep .low) .1 (omega arith)) in
+      let m : s.jobs - 0 ≡ s.jobs = omega arith in
+      rw (z, m) at (least-word (start s) (ok .jobs .low))

@@ -11,7 +11,7 @@ use Rattle.frame.specs.Sheet.{Sheet, Ranges}
 use Rattle.frame.specs.Run.{State, fresh, change, job, step}
 use Rattle.frame.specs.Plan.{least, plan}
 use Rattle.frame.specs.Table.{cell, word}
-use Rattle.frame.specs.Demands.{endTime, Feasible, noWay, LeastTime}
+use Rattle.frame.specs.Demands.{LevelList, endTime, Feasible, infeasible, LeastTime}
 use Rattle.frame.proofs.Plan.{least-of-bounded, least-from}
 use Rattle.frame.proofs.Demand2.{keeps-by, least-end, plan-keeps, plan-end}
 
@@ -23,26 +23,27 @@ module _ (s : Sheet) (ok : Ranges s) where
   run-short (j ∷ js) a =
       omega (arith, run-short js (step s a j), ok .changeTime a.level j, ok .jobTime a.done j)
 
-  pub least-bounded : (n : ℕ) (a : State) → least s n a ≤ noWay
+  list-short : (n : ℕ) (a : State) (js : List ℕ) → LevelList s n js → endTime s a js ≤ a.time + n * 20000000
+  list-short n a js l = rw (l .size) at (run-short js a)
+
+  pub least-bounded : (n : ℕ) (a : State) → least s n a ≤ infeasible
   unfolding least
   least-bounded zero a = omega arith
   least-bounded (suc n) a = least-of-bounded s.levels _
 
   module _ (n : ℕ) (few : n ≤ 64) (a : State) (cool : a.peak ≤ s.temperatureLimit) where
-    feasible-short : (js : List ℕ) → Feasible s n a js → endTime s a js ≤ a.time + n * 20000000
-    feasible-short js f = rw (f .levels .size) at (run-short js a)
-
-    plan-feasible : least s n a < noWay → Feasible s n a (plan s n a)
+    plan-feasible : least s n a < infeasible → Feasible s n a (plan s n a)
     plan-feasible l = keeps-by s n a _ _ (plan s n a) (omega arith) (plan-keeps s n a cool l)
 
     pub least-time : LeastTime s n a (least s n a)
     least-time =
         record {
+          most = least-bounded n a;
           reached = λ l. (plan s n a, plan-feasible l, plan-end s n a cool l);
           least = λ js f. least-end s n a _ js f;
           none = (
-            λ e js f. omega (arith, least-end s n a _ js f, feasible-short js f),
-            λ h. elim (decLt (least s n a) noWay) [
+            λ e js f. omega (arith, least-end s n a _ js f, list-short n a js (f .levels)),
+            λ h. elim (decLt (least s n a) infeasible) [
               | yes l ↦ absurd (h (plan s n a) (plan-feasible l))
               | no l ↦ omega (arith, least-bounded n a)
             ],
@@ -52,13 +53,12 @@ module _ (s : Sheet) (ok : Ranges s) where
   -- Every word of the table, cells above C and cells that no run reaches included.
   pub word-least : (i p x y : ℕ) → LeastTime s (s.jobs - i) (cell s i p x y) (word s i p x y)
   unfolding word
-  word-least i p x y = least-time (s.jobs - i) (omega (arith, ok .jobs .1)) (cell s i p x y) (omega arith)
+  word-least i p x y = least-time (s.jobs - i) (omega (arith, ok .jobs .high)) (cell s i p x y) (omega arith)
 
-  -- A word is 4,294,967,295 or far below it: at most 20 seconds a job.
-  pub least-small : (n : ℕ) (a : State) → least s n a < noWay → least s n a ≤ n * 20000000
+  -- A least time is 4,294,967,295 or far below it: at most 20 seconds a job.
+  pub least-small : (n : ℕ) (a : State) → least s n a < infeasible → least s n a ≤ n * 20000000
   least-small n a l =
       let b = fresh a.done a.level a.energy a.temperature in
       let q : least s n a ≡ least s n b = least-from s n a b refl refl refl refl in
-      let h : least s n b < noWay = omega arith in
-      let k = plan-keeps s n b (omega arith) h in
-      omega (arith, plan-end s n b (omega arith) h, rw (k .levels .size) at (run-short (plan s n b) b))
+      let h : least s n b < infeasible = omega arith in
+      omega (arith, plan-end s n b (omega arith) h, list-short n b (plan s n b) (plan-keeps s n b (omega arith) h .levels))

@@ -1,6 +1,7 @@
 -- The worked cases of document 01 ('One sheet, whole' and 'Near the mark, but wrong') as rows of one list: the printed sheet
 -- with the named fields changed, and the answer that document 01 prints. `proofs/Cases.antt` shows that the definitions give
--- each of them. Every starred case is here, and after them the cases that pin what the starred ones leave open.
+-- each of them. Every starred case is here; after them come cases that pin what the starred ones leave open, some of document
+-- 01's own and some worked by hand.
 -- Assumes nothing.
 use mathlib.Core.List.{List, [], _∷_}
 use Prim.Native.Nat.{ℕ, _+_, _*_}
@@ -8,25 +9,23 @@ use lib.IntN.{ℤ, pos, negℤ}
 use lib.ListN.{getD}
 use Rattle.thermal.specs.Thermal.{steadyState, temperatureAfter}
 use Rattle.frame.specs.Sheet.{Sheet}
-use Rattle.frame.specs.Run.{State, start, exactRun}
+use Rattle.frame.specs.Run.{start}
 use Rattle.frame.specs.Limits.{Margins, margins}
-use Rattle.frame.specs.Demands.{Outcome, planned, noPlan}
+use Rattle.frame.specs.Demands.{Outcome, planned, noPlan, Figures, figures}
 use Rattle.frame.specs.Plan.{frameOutcome}
-use Rattle.frame.specs.Table.{need}
+use Rattle.frame.specs.Table.{need, place}
 
+-- What a case has for an answer: a plan's levels and figures, a refusal's number, a measured list's margins, or a number.
 pub data Answer : Type 0 where
-  -- the levels, and the plan's time, energy and final temperature
-  plan : List ℕ → ℕ → ℕ → ℕ → Answer
-  -- a refusal's number
-  refused : ℕ → Answer
-  -- the margins of a measured list
-  measured : Margins → Answer
-  number : ℕ → Answer
+  planIs : List ℕ → Figures → Answer
+  refusalIs : ℕ → Answer
+  marginsAre : Margins → Answer
+  numberIs : ℕ → Answer
 
--- The plan's "total time, energy and final temperature of the run without grains"; "no plan" is refusal 10.
+-- The answer for a sheet's own frame; "no plan" is refusal 10.
 abbrev pub answerOf : Sheet → Outcome → Answer
-answerOf s (planned js) = let b : State = exactRun s (start s) js in plan js b.time b.energy b.temperature
-answerOf s noPlan = refused 10
+answerOf s (planned js) = planIs js (figures s (start s) js)
+answerOf s noPlan = refusalIs 10
 
 -- The figure in row i and column j.
 abbrev pub entry : List (List ℕ) → ℕ → ℕ → ℕ
@@ -54,14 +53,19 @@ sheetOf H L S B =
       decay = λ i j. entry B (i * getD H 1 0 + j) 2;
     }
 
+-- The printed sheet's L, S and B lines.
+abbrev pub printedL : List ℕ
+printedL = 10000 ∷ 20000 ∷ []
+
+abbrev pub printedS : List (List ℕ)
+printedS = (0 ∷ 0 ∷ []) ∷ (2 ∷ 3 ∷ []) ∷ (1 ∷ 3 ∷ []) ∷ (0 ∷ 0 ∷ []) ∷ []
+
+abbrev pub printedB : List (List ℕ)
+printedB = (30 ∷ 20 ∷ 32768 ∷ []) ∷ (18 ∷ 45 ∷ 32768 ∷ []) ∷ (28 ∷ 25 ∷ 32768 ∷ []) ∷ (15 ∷ 40 ∷ 32768 ∷ []) ∷ []
+
 -- The printed sheet, with D, W, C, g and h as named.
 abbrev pub sheet : ℕ → ℕ → ℕ → ℕ → ℕ → Sheet
-sheet D W C g h =
-    sheetOf
-    (2 ∷ 2 ∷ 0 ∷ D ∷ W ∷ C ∷ 1000 ∷ 2000 ∷ g ∷ h ∷ [])
-    (10000 ∷ 20000 ∷ [])
-    ((0 ∷ 0 ∷ []) ∷ (2 ∷ 3 ∷ []) ∷ (1 ∷ 3 ∷ []) ∷ (0 ∷ 0 ∷ []) ∷ [])
-    ((30 ∷ 20 ∷ 32768 ∷ []) ∷ (18 ∷ 45 ∷ 32768 ∷ []) ∷ (28 ∷ 25 ∷ 32768 ∷ []) ∷ (15 ∷ 40 ∷ 32768 ∷ []) ∷ [])
+sheet D W C g h = sheetOf (2 ∷ 2 ∷ 0 ∷ D ∷ W ∷ C ∷ 1000 ∷ 2000 ∷ g ∷ h ∷ []) printedL printedS printedB
 
 -- "A sheet of its own with one job, two equal levels, free changes, that has a plan".
 abbrev pub equalLevels : Sheet
@@ -72,8 +76,16 @@ equalLevels =
     ((0 ∷ 0 ∷ []) ∷ (0 ∷ 0 ∷ []) ∷ (0 ∷ 0 ∷ []) ∷ (0 ∷ 0 ∷ []) ∷ [])
     ((30 ∷ 20 ∷ 32768 ∷ []) ∷ (30 ∷ 20 ∷ 32768 ∷ []) ∷ [])
 
--- A sheet of our own in which no two figures of one kind are alike, so that none can be taken for another; the first job
--- changes level.
+-- A sheet of our own whose one job cools: its level has no power, and it starts at 2,000.
+abbrev pub cooling : Sheet
+cooling =
+    sheetOf
+    (1 ∷ 1 ∷ 0 ∷ 50 ∷ 100 ∷ 2500 ∷ 2000 ∷ 2000 ∷ 10 ∷ 100 ∷ [])
+    (0 ∷ [])
+    ((0 ∷ 0 ∷ []) ∷ [])
+    ((30 ∷ 20 ∷ 32768 ∷ []) ∷ [])
+
+-- A sheet of our own in which no figure that a list reads can be taken for another; the first job changes level.
 abbrev pub unequal : Sheet
 unequal =
     sheetOf
@@ -82,47 +94,56 @@ unequal =
     ((0 ∷ 0 ∷ []) ∷ (5 ∷ 11 ∷ []) ∷ (3 ∷ 7 ∷ []) ∷ (0 ∷ 0 ∷ []) ∷ [])
     ((100 ∷ 20 ∷ 16384 ∷ []) ∷ (61 ∷ 33 ∷ 32768 ∷ []) ∷ (90 ∷ 24 ∷ 8192 ∷ []) ∷ (47 ∷ 40 ∷ 49152 ∷ []) ∷ [])
 
--- What the definitions give, and what document 01 prints.
+-- What the definitions give, and what is expected of them.
 pub record Case : Type 0 where
   pub given : Answer
-  pub printed : Answer
+  pub expected : Answer
 
--- A sheet planned: the answer.
-abbrev pub plans : Sheet → Answer → Case
-plans s printed = record { given = answerOf s (frameOutcome s); printed = printed }
+-- A sheet planned: the levels, and the plan's time, energy and final temperature.
+abbrev pub plans : Sheet → List ℕ → ℕ → ℕ → ℕ → Case
+plans s js time energy temperature =
+    record {
+      given = answerOf s (frameOutcome s);
+      expected = planIs js (record { time = time; energy = energy; temperature = temperature });
+    }
+
+-- A sheet refused: the refusal's number.
+abbrev pub refuses : Sheet → ℕ → Case
+refuses s number = record { given = answerOf s (frameOutcome s); expected = refusalIs number }
 
 -- A list measured on a sheet: the three margins.
 abbrev pub measures : Sheet → List ℕ → ℤ → ℤ → ℤ → Case
 measures s js time energy temperature =
     record {
-      given = measured (margins s js);
-      printed = measured (record { time = time; energy = energy; temperature = temperature });
+      given = marginsAre (margins s js);
+      expected = marginsAre (record { time = time; energy = energy; temperature = temperature });
     }
 
 -- A figure by itself.
 abbrev pub gives : ℕ → ℕ → Case
-gives n printed = record { given = number n; printed = number printed }
+gives n number = record { given = numberIs n; expected = numberIs number }
 
-abbrev pub same : Answer
-same = plan (1 ∷ 0 ∷ []) 49 76 2250
+-- The printed sheet gives "same", the plan that document 01 prints for it.
+abbrev pub same : Sheet → Case
+same s = plans s (1 ∷ 0 ∷ []) 49 76 2250
 
 -- T and s, a temperature and a steady-state temperature, are those of the row "Decay 65,536: T": it holds for every two.
 abbrev pub cases : ℕ → ℕ → List Case
 cases T s =
     -- the sheet as printed
-    plans (sheet 50 100 2500 10 100) same
+    same (sheet 50 100 2500 10 100)
     -- "D 49: same. D 48: 10."
-    ∷ plans (sheet 49 100 2500 10 100) same
-    ∷ plans (sheet 48 100 2500 10 100) (refused 10)
+    ∷ same (sheet 49 100 2500 10 100)
+    ∷ refuses (sheet 48 100 2500 10 100) 10
     -- "C 2499: 10. C 2499 and D 58: levels 0, 0; 58, 45, 1750."
-    ∷ plans (sheet 50 100 2499 10 100) (refused 10)
-    ∷ plans (sheet 58 100 2499 10 100) (plan (0 ∷ 0 ∷ []) 58 45 1750)
+    ∷ refuses (sheet 50 100 2499 10 100) 10
+    ∷ plans (sheet 58 100 2499 10 100) (0 ∷ 0 ∷ []) 58 45 1750
     -- "h 300: 10, as 1,000 is raised to 1,200 and log then ends at 2,600."
-    ∷ plans (sheet 50 100 2500 10 300) (refused 10)
+    ∷ refuses (sheet 50 100 2500 10 300) 10
     -- "W 78: same plan. W 77: 10. W 76 and g 1: same plan."
-    ∷ plans (sheet 50 78 2500 10 100) same
-    ∷ plans (sheet 50 77 2500 10 100) (refused 10)
-    ∷ plans (sheet 50 76 2500 1 100) same
+    ∷ same (sheet 50 78 2500 10 100)
+    ∷ refuses (sheet 50 77 2500 10 100) 10
+    ∷ same (sheet 50 76 2500 1 100)
     -- "Levels 0, 1 measured: margins 3, 37, −250."
     ∷ measures (sheet 50 100 2500 10 100) (0 ∷ 1 ∷ []) (pos 3) (pos 37) (negℤ (pos 250))
     -- "Steady rise for 1,500 and 1,830: 274.5 gives 275."
@@ -131,12 +152,18 @@ cases T s =
     ∷ gives (temperatureAfter 1 0 1) 1
     ∷ gives (temperatureAfter T s 65536) T
     -- not starred: "With h 1000 the example keeps levels 1, 0"; it shuts out a temperature limit tested after raising
-    ∷ plans (sheet 50 100 2500 10 1000) same
+    ∷ same (sheet 50 100 2500 10 1000)
     -- not starred: two equal levels give "level 0"
-    ∷ plans equalLevels (plan (0 ∷ []) 30 20 1500)
+    ∷ plans equalLevels (0 ∷ []) 30 20 1500
     -- not starred: "Its need is 1,144 words", and "need 4,194,304" for m 64, l 8, W 63, g 1, C 127, h 1
     ∷ gives (need (sheet 50 100 2500 10 100)) 1144
     ∷ gives (need (sheetOf (64 ∷ 8 ∷ 0 ∷ 0 ∷ 63 ∷ 127 ∷ 0 ∷ 0 ∷ 1 ∷ 1 ∷ []) [] [] [])) 4194304
+    -- by hand: A is 11 and B 26, so the place is ((1 × 2 + 1) × 11 + 3) × 26 + 5
+    ∷ gives (place (sheet 50 100 2500 10 100) 1 1 3 5) 941
+    -- by hand: the plan's own margins; its highest temperature is not its last
+    ∷ measures (sheet 50 100 2500 10 100) (1 ∷ 0 ∷ []) (pos 1) (pos 24) (pos 0)
+    -- by hand: 50 - 30, 100 - 20, and 2,500 - 1,000, as the start temperature does not count
+    ∷ measures cooling (0 ∷ []) (pos 20) (pos 80) (pos 1500)
     -- by hand: 3 + 100 + 5 + 47 = 155, 7 + 20 + 11 + 40 = 78, and 1,000 goes to 250 + 1,050 = 1,300, then to 975 + 650 = 1,625
     ∷ measures unequal (0 ∷ 1 ∷ []) (negℤ (pos 5)) (pos 22) (pos 0)
     ∷ []

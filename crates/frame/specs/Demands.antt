@@ -1,5 +1,5 @@
--- Demands 2 and 3 and the table's words in the request's own words, over all lists of levels. Nothing here computes: the
--- functions that do stand in `specs/Plan.antt`, and the proofs show that they give what is said here.
+-- Demands 2 and 3 of the request, and what a word of the table holds (document 01), in words: over all lists of levels. How a
+-- plan is found stands in `specs/Plan.antt`, and the proofs show that it is what is said here.
 -- Assumes nothing.
 use mathlib.Core.Logic.{_↔_}
 use mathlib.Core.Path.{_≡_}
@@ -7,8 +7,8 @@ use mathlib.Core.List.{List, [], _∷_}
 use Prim.Native.Nat.{ℕ, _+_, _≤_, _<_}
 use lib.ListN.{length}
 use Rattle.frame.specs.Sheet.{Sheet}
-use Rattle.frame.specs.Run.{State, start, exact, raised, exactRun}
-use Rattle.frame.specs.Limits.{Meets, limitsBy, limits, tightened}
+use Rattle.frame.specs.Run.{State, exact, raised, exactRun}
+use Rattle.frame.specs.Limits.{Limits, Meets, limitsBy, limits}
 
 -- Every level of a list is below l.
 abbrev pub Below : ℕ → List ℕ → Type 0
@@ -25,7 +25,7 @@ pub record Keeps (s : Sheet) (d n : ℕ) (a : State) (js : List ℕ) : Type 0 wh
   pub levels : LevelList s n js
   pub meets : Meets s (raised s) (limitsBy s d) a js
 
--- The total time of a list, from a on; time is not rounded.
+-- The time at the end of a list that is run from a; time is not rounded.
 abbrev pub endTime : Sheet → State → List ℕ → ℕ
 endTime s a js = (exactRun s a js) .time
 
@@ -59,29 +59,42 @@ abbrev pub Feasible : Sheet → ℕ → State → List ℕ → Type 0
 Feasible s n a js = Keeps s (endTime s a js) n a js
 
 -- "4,294,967,295 where no way exists"
-abbrev pub noWay : ℕ
-noWay = 4294967295
+abbrev pub infeasible : ℕ
+infeasible = 4294967295
 
 -- x is "the least time in which the remaining jobs can be done within W and C by the rounded rule, or 4,294,967,295 where no
 -- way exists": n jobs, from the state a.
 pub record LeastTime (s : Sheet) (n : ℕ) (a : State) (x : ℕ) : Type 0 where
-  pub reached : x < noWay → (js : List ℕ) × Feasible s n a js × (endTime s a js ≡ a.time + x)
+  pub most : x ≤ infeasible
+  pub reached : x < infeasible → (js : List ℕ) × Feasible s n a js × (endTime s a js ≡ a.time + x)
   pub least : (js : List ℕ) → Feasible s n a js → a.time + x ≤ endTime s a js
-  pub none : (x ≡ noWay) ↔ ((js : List ℕ) → ¬ Feasible s n a js)
+  pub none : (x ≡ infeasible) ↔ ((js : List ℕ) → ¬ Feasible s n a js)
 
--- A list that meets the tightened limits of demand 3, run without grains from the sheet's start.
-pub record Tight (s : Sheet) (js : List ℕ) : Type 0 where
-  pub levels : LevelList s s.jobs js
-  pub meets : Meets s exact (tightened s) (start s) js
+-- A list for the next n jobs that meets the limits k in the exact run, from the state a.
+pub record Tight (s : Sheet) (k : Limits) (n : ℕ) (a : State) (js : List ℕ) : Type 0 where
+  pub levels : LevelList s n js
+  pub meets : Meets s exact k a js
 
 -- "that plan, run without grains, meets deadline, ration and ceiling after every job", and "takes no longer than any list"
--- that meets the tightened limits
-pub record Sound (s : Sheet) (js : List ℕ) : Type 0 where
-  pub levels : LevelList s s.jobs js
-  pub meets : Meets s exact (limits s) (start s) js
-  pub no-slower : (xs : List ℕ) → Tight s xs → endTime s (start s) js ≤ endTime s (start s) xs
+-- that meets the tightened limits k.
+pub record Sound (s : Sheet) (k : Limits) (n : ℕ) (a : State) (js : List ℕ) : Type 0 where
+  pub levels : LevelList s n js
+  pub meets : Meets s exact (limits s) a js
+  pub no-slower : (xs : List ℕ) → Tight s k n a xs → endTime s a js ≤ endTime s a xs
 
--- Demand 3, on the outcome. "Where the answer is “no plan”, no list meets these tightened limits."
-abbrev pub Demand3 : Sheet → Outcome → Type 0
-Demand3 s (planned js) = Sound s js
-Demand3 s noPlan = (xs : List ℕ) → ¬ Tight s xs
+-- Demand 3 on the outcome, with k the tightened limits: `tightened s` for the sheet's own frame, all its jobs from its start.
+-- "Where the answer is "no plan", no list meets these tightened limits."
+abbrev pub Demand3 : Sheet → Limits → ℕ → State → Outcome → Type 0
+Demand3 s k n a (planned js) = Sound s k n a js
+Demand3 s k n a noPlan = (xs : List ℕ) → ¬ Tight s k n a xs
+
+-- What a plan's reply says: "total time, energy and final temperature of the run without grains".
+pub record Figures : Type 0 where
+  pub time : ℕ
+  pub energy : ℕ
+  pub temperature : ℕ
+
+unfoldable pub figures : Sheet → State → List ℕ → Figures
+figures s a js =
+    let b : State = exactRun s a js in
+    record { time = b.time; energy = b.energy; temperature = b.temperature }

@@ -1,7 +1,7 @@
 -- The limits of a frame and what it means to meet them (document 01, 'The run without grains'; demand 3), and the margins
 -- of a measured list.
 --
--- Limits are signed, since demand 3 tightens them below zero.
+-- Limits are signed, since demand 3 may tighten them below zero.
 -- Assumes nothing.
 use mathlib.Core.List.{List, [], _∷_}
 use Prim.Native.Nat.{ℕ, _*_, _-_, _≤_}
@@ -27,8 +27,8 @@ pub record Within (k : Limits) (a : State) : Type 0 where
   pub energy : AtMost a.energy k.energy
   pub temperature : AtMost a.peak k.temperature
 
--- The limits hold "after every job", in the run without grains for `exact` and in the rounded run for `raised s`. There
--- they are "tested on the values before they are raised": on what the job left, not on what the next job starts from.
+-- The limits hold "after every job", of the exact run for `exact` and of the rounded run for `raised s`. In the rounded run
+-- they are "tested on the values before they are raised": on what a job leaves, not on what the next job starts from.
 abbrev pub Meets : Sheet → (State → State) → Limits → State → List ℕ → Type 0
 Meets s before k a [] = Unit
 Meets s before k a (j ∷ js) = Within k (step s (before a) j) × Meets s before k (step s (before a) j) js
@@ -65,7 +65,7 @@ pub record Margins : Type 0 where
   pub energy : ℤ
   pub temperature : ℤ
 
--- The margins of a list of levels, run without grains from the sheet's start.
+-- The margins of a list of levels, in the exact run from the sheet's start.
 unfoldable pub margins : Sheet → List ℕ → Margins
 margins s js =
     let b : State = exactRun s (start s) js in

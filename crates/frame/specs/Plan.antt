@@ -2,7 +2,8 @@
 -- run and the table'; demand 2), as functions that compute. `proofs/Demand2.antt` shows that they are what demand 2 says in
 -- words: `specs/Demands.antt`.
 --
--- TCEC computes the same by Relax_ε; "its step sizes become the two grains".
+-- TCEC's Relax_ε rounds in the same way and fills its tables forwards, by elapsed time; document 01's table holds the
+-- remaining time.
 -- Assumes nothing.
 use mathlib.Core.Bool.{cond}
 use mathlib.Core.List.{List, [], _∷_}
@@ -10,14 +11,14 @@ use Prim.Native.Nat.{ℕ, zero, suc, _+_, _-_, min}
 use lib.Dec.{leb}
 use Rattle.frame.specs.Sheet.{Sheet}
 use Rattle.frame.specs.Run.{State, fresh, start, step, raised}
-use Rattle.frame.specs.Demands.{noWay, Outcome, planned, noPlan}
+use Rattle.frame.specs.Demands.{infeasible, Outcome, planned, noPlan}
 
--- The least of f 0 .. f (k - 1), or `noWay` where none is less.
+-- The least of f 0 .. f (k - 1), and `infeasible` where none is less than that.
 unfoldable pub leastOf : ℕ → (ℕ → ℕ) → ℕ
-leastOf zero f = noWay
+leastOf zero f = infeasible
 leastOf (suc k) f = min (leastOf k f) (f k)
 
--- The first place below k at which f is at most x; k - 1 where there is none.
+-- The first place below k at which f is at most x, where there is one and x is less than `infeasible`.
 unfoldable pub firstWithin : ℕ → (ℕ → ℕ) → ℕ → ℕ
 firstWithin zero f x = 0
 firstWithin (suc k) f x = cond (leb (leastOf k f) x) (firstWithin k f x) k
@@ -30,22 +31,23 @@ next s a j = step s (raised s (fresh a.done a.level a.energy a.temperature)) j
 -- limit ("tested on the values before they are raised").
 unfoldable pub cost : Sheet → State → ℕ → ℕ
 cost s b rest =
-    cond (leb b.energy s.energyBudget) (cond (leb b.peak s.temperatureLimit) (min noWay (b.time + rest)) noWay) noWay
+    cond (leb b.energy s.energyBudget) (cond (leb b.peak s.temperatureLimit) (min infeasible (b.time + rest)) infeasible) infeasible
+
+-- The time of the next job at level j and of what comes after it, which takes `rest` from the state that the job leaves.
+unfoldable pub via : Sheet → (State → ℕ) → State → ℕ → ℕ
+via s rest a j = cost s (next s a j) (rest (next s a j))
 
 -- "the least time in which the remaining jobs can be done within W and C by the rounded rule": n jobs, from the state a.
 unfoldable pub least : Sheet → ℕ → State → ℕ
 least s zero a = 0
-least s (suc n) a = leastOf s.levels (λ j. cost s (next s a j) (least s n (next s a j)))
+least s (suc n) a = leastOf s.levels (via s (least s n) a)
 
--- The same with the first of n + 1 jobs at level j.
-unfoldable pub leastVia : Sheet → ℕ → State → ℕ → ℕ
-leastVia s n a j = cost s (next s a j) (least s n (next s a j))
-
--- The first list in level order that takes at most x for the next n jobs.
+-- The first list in level order that keeps W and C by the rounded rule and takes at most x for the next n jobs, where the
+-- least time is at most x.
 unfoldable pub choice : Sheet → ℕ → State → ℕ → List ℕ
 choice s zero a x = []
 choice s (suc n) a x =
-    let j : ℕ = firstWithin s.levels (leastVia s n a) x in
+    let j : ℕ = firstWithin s.levels (via s (least s n) a) x in
     j ∷ choice s n (step s (raised s a) j) (x - (next s a j) .time)
 
 -- The plan: the first list in level order that takes the least time.

@@ -1,7 +1,7 @@
 -- A frame's run (document 01, 'The run without grains' and 'The rounded run and the table'): one state that each job
 -- carries forward, from the sheet's start or from any other state.
 --
--- TCEC writes the same as path transfer functions, equations (8) to (10), and the rounding as its function g_k.
+-- TCEC writes a job as path transfer functions, equations (8) to (10), and raising as its function g_k.
 -- Assumes nothing.
 use mathlib.Core.List.{List, [], _∷_}
 use Prim.Native.Nat.{ℕ, suc, _+_, max}
@@ -58,7 +58,7 @@ job s a =
 unfoldable pub step : Sheet → State → ℕ → State
 step s a j = job s (change s a j)
 
--- What comes before each job of the run without grains: nothing.
+-- What comes before each job of the exact run: nothing.
 abbrev pub exact : State → State
 exact a = a
 
@@ -80,9 +80,10 @@ abbrev pub run : Sheet → (State → State) → State → List ℕ → State
 run s before a [] = a
 run s before a (j ∷ js) = run s before (step s (before a) j) js
 
--- The run without grains, and the rounded run.
+-- The exact run (document 01: the run without grains).
 abbrev pub exactRun : Sheet → State → List ℕ → State
 exactRun s a js = run s exact a js
 
+-- The rounded run: "As above, but before each job energy is raised" and temperature too.
 abbrev pub roundedRun : Sheet → State → List ℕ → State
 roundedRun s a js = run s (raised s) a js

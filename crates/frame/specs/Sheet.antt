@@ -1,12 +1,14 @@
 -- The figures of a job sheet (document 01, 'Units' and 'The sheet'), and the ranges in which a sheet that is read holds them.
 --
--- "All are unsigned whole numbers." Figures of a level or a job are functions of its number, counted from 0; TCEC's name
--- of a figure stands behind document 01's. Beyond the sheet's own jobs and levels a figure is 0.
+-- "All are unsigned whole numbers". A figure of a level, a change or a job is a function of its numbers, counted from 0;
+-- TCEC's name of a figure stands behind document 01's. Ranges bind a figure at every index: a sheet's figures end with its
+-- jobs and levels, and whoever makes a `Sheet` of them gives 0 beyond.
 -- Assumes nothing.
 use mathlib.Core.Path.{_≡_}
 use Prim.Native.Nat.{ℕ, _≤_, _<_}
 use Rattle.thermal.specs.Thermal.{steadyState}
 
+-- What stands in a sheet, but for the jobs' names.
 pub record Sheet : Type 0 where
   -- m, the number of jobs
   pub jobs : ℕ
@@ -45,9 +47,10 @@ pub record Sheet : Type 0 where
 abbrev pub steadyOf : Sheet → ℕ → ℕ
 steadyOf s j = steadyState (s.power j) s.resistance
 
--- "(lo to hi)" of document 01: both ends are in the range.
-abbrev pub Between : ℕ → ℕ → ℕ → Type 0
-Between lo hi x = (lo ≤ x) × (x ≤ hi)
+-- x lies in a range from lo to hi, both ends included.
+pub record Between (lo hi x : ℕ) : Type 0 where
+  pub low : lo ≤ x
+  pub high : x ≤ hi
 
 -- The ranges that document 01 gives the figures, line by line; `cool` is what refusal 5 leaves.
 pub record Ranges (s : Sheet) : Type 0 where

@@ -32,16 +32,19 @@ cell s i p a b = fresh i p (a * s.energyStep) (b * s.temperatureStep)
 unfoldable pub word : Sheet → ℕ → ℕ → ℕ → ℕ → ℕ
 word s i p a b = least s (s.jobs - i) (cell s i p a b)
 
--- Jobs done, level before, energy cell and temperature cell, read back from a place k.
+-- The jobs done of the cell at place k.
 unfoldable pub doneAt : Sheet → ℕ → ℕ
 doneAt s k = k / temperatureCells s / energyCells s / s.levels
 
+-- The level before of the cell at place k.
 unfoldable pub levelAt : Sheet → ℕ → ℕ
 levelAt s k = k / temperatureCells s / energyCells s % s.levels
 
+-- The energy cell at place k.
 unfoldable pub energyCellAt : Sheet → ℕ → ℕ
 energyCellAt s k = k / temperatureCells s % energyCells s
 
+-- The temperature cell at place k.
 unfoldable pub temperatureCellAt : Sheet → ℕ → ℕ
 temperatureCellAt s k = k % temperatureCells s
 

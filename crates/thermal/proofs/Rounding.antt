@@ -1,4 +1,4 @@
--- Laws of rounding up. `ceil-least` is the definition in words; with `raise-le` it gives every other law.
+-- Laws of rounding up. `ceil-least` is the definition in words; the others but `raise-le` rest on it.
 -- Assumes nothing.
 use mathlib.Core.Logic.{_↔_}
 use mathlib.Core.Path.{_≡_}

@@ -1,4 +1,5 @@
--- Laws of the thermal model. What lies above this crate knows the thermal rule by these alone.
+-- Laws of the thermal model. What lies above this crate knows the thermal rule by these alone; the worked cases compute with
+-- its text.
 -- Assumes nothing.
 use mathlib.Core.Path.{_≡_}
 use Prim.Native.Nat.{ℕ, _+_, _*_, _-_, _≤_, _<_, max}

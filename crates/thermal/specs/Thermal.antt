@@ -4,7 +4,7 @@
 -- resistance millikelvins per watt, a decay a whole number out of 65,536. TCEC, equation (6), has the same rule in real
 -- numbers: T(i) = (1 - β) T_s + β T(i - 1), with β the decay and T_s the steady-state temperature of the level.
 -- Assumes nothing.
-use Prim.Native.Nat.{ℕ, _+_, _*_, _-_, _/_}
+use Prim.Native.Nat.{ℕ, _+_, _*_, _-_, _/_, _≤_}
 use Rattle.thermal.specs.Rounding.{ceilDiv}
 
 -- The steady-state temperature of a level (document 01: steady rise): "P × R / 10,000 to the nearest whole number, an
@@ -16,3 +16,9 @@ steadyState power resistance = (power * resistance + 5000) / 10000
 -- (decay × T + (65,536 − decay) × steady rise) / 65,536, rounded up".
 unfoldable pub temperatureAfter : ℕ → ℕ → ℕ → ℕ
 temperatureAfter temperature steady decay = ceilDiv (decay * temperature + (65536 - decay) * steady) 65536
+
+-- What the rule, "an inner call, worked in a 64-bit number", "may rest on".
+pub record RuleDomain (temperature steady decay : ℕ) : Type 0 where
+  pub temperature-most : temperature ≤ 39998
+  pub steady-most : steady ≤ 20000
+  pub decay-most : decay ≤ 65536

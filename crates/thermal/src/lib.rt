@@ -1,6 +1,5 @@
 ghost use mathlib.Core.Path.{_≡_};
-ghost use Prim.Native.Nat.{_≤_};
-ghost use Rattle.thermal.specs.Thermal.{steadyState, temperatureAfter};
+ghost use Rattle.thermal.specs.Thermal.{steadyState, temperatureAfter, RuleDomain};
 
 // The steady-state temperature of a voltage level: power in milliwatts, thermal resistance in millikelvins per watt.
 pub fn steady_state(power: u32, resistance: u32) -> u64
@@ -12,7 +11,7 @@ pub fn steady_state(power: u32, resistance: u32) -> u64
 // The temperature after a job that starts at `temperature`, at a level of steady-state temperature `steady`. An inner
 // call: 39,998 is the warmest that a raised temperature can be.
 pub fn temperature_after(temperature: u64, steady: u64, decay: u64) -> u64
-    requires { ⌜ (temperature ≤ 39998) × (steady ≤ 20000) × (decay ≤ 65536) ⌝ }
+    requires { ⌜ RuleDomain temperature steady decay ⌝ }
     ensures { λ r. ⌜ r ≡ temperatureAfter temperature steady decay ⌝ }
 {
     (decay * temperature + (65_536 - decay) * steady + 65_535) / 65_536

@@ -19,7 +19,7 @@ add-result c = omega (arith, product (c .args .power) (c .args .resistance) (ome
 
 returns : tie.Need-returns
 unfolding steadyState
-returns c = search needs
+returns c = omega arith
 
 pub steady-state-spec : {M : Type 1} → statement M
 steady-state-spec = tie.close (tie.spec mul-result add-result returns)

@@ -14,7 +14,7 @@ product : (d t : ℕ) → d ≤ 65536 → t ≤ 39998 → d * t ≤ 65536 * 3999
 product d t h k = mul-le-mul h k
 
 mul-result : tie.Need-mul-result
-mul-result c = omega (arith, product (c .args .decay) (c .args .temperature) (c .pre .2) (c .pre .0))
+mul-result c = omega (arith, product (c .args .decay) (c .args .temperature) (c .pre .decay-most) (c .pre .temperature-most))
 
 sub-result : tie.Need-sub-result
 sub-result c = search needs
@@ -33,7 +33,7 @@ add-result-2 c = omega (arith, sum (c .args .decay) (c .args .temperature) (c .a
 
 returns : tie.Need-returns
 unfolding temperatureAfter ceilDiv
-returns c = search needs
+returns c = omega arith
 
 pub temperature-after-spec : {M : Type 1} → statement M
 temperature-after-spec =
