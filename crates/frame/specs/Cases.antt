@@ -10,10 +10,10 @@ use lib.ListN.{getD}
 use Rattle.thermal.specs.Thermal.{steadyState, temperatureAfter}
 use Rattle.frame.specs.Sheet.{Sheet}
 use Rattle.frame.specs.Run.{start}
-use Rattle.frame.specs.Limits.{Margins, margins}
+use Rattle.frame.specs.Limits.{energySlack, temperatureSlack, Margins, margins}
 use Rattle.frame.specs.Demands.{Outcome, planned, noPlan, Figures, figures}
 use Rattle.frame.specs.Plan.{frameOutcome}
-use Rattle.frame.specs.Table.{need, place}
+use Rattle.frame.specs.Table.{need, place, word}
 
 -- What a case has for an answer: a plan's levels and figures, a refusal's number, a measured list's margins, or a number.
 pub data Answer : Type 0 where
@@ -160,6 +160,12 @@ cases T s =
     ∷ gives (need (sheetOf (64 ∷ 8 ∷ 0 ∷ 0 ∷ 63 ∷ 127 ∷ 0 ∷ 0 ∷ 1 ∷ 1 ∷ []) [] [] [])) 4194304
     -- by hand: A is 11 and B 26, so the place is ((1 × 2 + 1) × 11 + 3) × 26 + 5
     ∷ gives (place (sheet 50 100 2500 10 100) 1 1 3 5) 941
+    -- by hand: the start state's word is the plan's time; with energy 100 spent no level of send stays within W
+    ∷ gives (word (sheet 50 100 2500 10 100) 0 0 0 10) 49
+    ∷ gives (word (sheet 50 100 2500 10 100) 1 0 10 0) 4294967295
+    -- by hand: demand 3 takes (2 − 1) × (10 − 1) off W and 2 × (100 − 1) off C
+    ∷ gives (energySlack (sheet 50 100 2500 10 100)) 9
+    ∷ gives (temperatureSlack (sheet 50 100 2500 10 100)) 198
     -- by hand: the plan's own margins; its highest temperature is not its last
     ∷ measures (sheet 50 100 2500 10 100) (1 ∷ 0 ∷ []) (pos 1) (pos 24) (pos 0)
     -- by hand: 50 - 30, 100 - 20, and 2,500 - 1,000, as the start temperature does not count
