@@ -48,7 +48,7 @@ pub data Outcome : Type 0 where
   planned : List ℕ → Outcome
   noPlan : Outcome
 
--- Demand 2: the plan is the best list, and "“no plan” is answered if there is no such list, and only then".
+-- Demand 2: the plan is the best list, and "no plan" is "answered if there is no such list, and only then".
 abbrev pub Demand2 : Sheet → ℕ → State → Outcome → Type 0
 Demand2 s n a (planned js) = Best s n a js
 Demand2 s n a noPlan = (js : List ℕ) → ¬ Keeps s s.deadline n a js

@@ -3,7 +3,6 @@
 use Prim.Native.Nat.{ℕ, _*_, _≤_}
 use native.Mathlib.Nat.{mul-le-mul}
 use native.Mathlib.Omega.{arith}
-use borrow.Author.Needs.{needs}
 use Rattle.thermal.specs.Thermal.{steadyState}
 use Rattle.thermal.proofs.steady_state.Statement.{statement}
 use Rattle.thermal.proofs.steady_state.Tie as tie
