@@ -1,0 +1,219 @@
+-- Laws of the form of numbers and names: what each test of a byte says of the field.
+-- Assumes nothing.
+use mathlib.Core.Path.{_≡_, refl, ap, sym, _∙_}
+use mathlib.Core.Logic.{_⊎_, inl, inr, ⊎-elim}
+use mathlib.Core.Bool.{Bool, true, false, cond}
+use mathlib.Core.List.{List, [], _∷_}
+use Prim.Native.Nat.{ℕ, suc, _+_, _-_, _*_, _^_, _≤_, _<_}
+use native.Mathlib.Nat.{pow-suc, pow-le-pow-right}
+use native.Mathlib.Omega.{arith}
+use lib.Dec.{eqb, ltb}
+use lib.ListN.{length, getD}
+use lib.Seq.{getD-take}
+use borrow.Author.Tests.{lt-ltb, le-ltb, le-leb, lt-leb, eq-eqb, ne-eqb}
+use Rattle.text.specs.Text.{before, until, part}
+use Rattle.text.specs.Number.{all, leadingZero, isNumber, valueFrom, fieldAt, isName}
+use Rattle.text.specs.declared.Field.the-variants.{Number, Malformed}
+use Rattle.text.proofs.Text.{until-hit, until-pass, until-none, part-none, part-here, length-part, length-until}
+
+-- ---- every byte in a range
+
+module _ (lo hi b : ℕ) (t : List ℕ) where
+  pub all-low : b < lo → all lo hi (b ∷ t) ≡ false
+  unfolding all
+  all-low h = simp (lt-leb lo b h)
+
+  pub all-high : lo ≤ b → hi < b → all lo hi (b ∷ t) ≡ false
+  unfolding all
+  all-high k h = simp (le-leb lo b k, lt-leb b hi h)
+
+  pub all-on : lo ≤ b → b ≤ hi → all lo hi (b ∷ t) ≡ all lo hi t
+  unfolding all
+  all-on k h = simp (le-leb lo b k, le-leb b hi h)
+
+pub all-none : (lo hi : ℕ) → all lo hi [] ≡ true
+unfolding all
+all-none lo hi = refl
+
+-- ---- a name, by places
+
+module _ (s : List ℕ) (from to : ℕ) (k : to ≤ length s) where
+  pub name-empty : from ≡ to → isName (part from to s) ≡ false
+  unfolding isName
+  name-empty e = simp (eq-eqb (length (part from to s)) 0 (omega (arith, length-part from to s k)))
+
+  pub name-long : 16 < to - from → isName (part from to s) ≡ false
+  unfolding isName
+  name-long h =
+      let l = length-part from to s k in
+      simp (ne-eqb (length (part from to s)) 0 (λ e. omega arith), lt-ltb 16 (length (part from to s)) (omega arith))
+
+  pub name-bytes : from < to → to - from ≤ 16 → isName (part from to s) ≡ all 33 126 (part from to s)
+  unfolding isName
+  name-bytes h m =
+      let l = length-part from to s k in
+      simp (ne-eqb (length (part from to s)) 0 (λ e. omega arith), le-ltb 16 (length (part from to s)) (omega arith))
+
+module _ (lo hi : ℕ) (s : List ℕ) (i to : ℕ) (h : i < to) (k : to ≤ length s) where
+  pub part-low : getD s i 0 < lo → all lo hi (part i to s) ≡ false
+  part-low b = rw (part-here i to s) (all-low lo hi _ _ b)
+
+  pub part-high : lo ≤ getD s i 0 → hi < getD s i 0 → all lo hi (part i to s) ≡ false
+  part-high a b = rw (part-here i to s) (all-high lo hi _ _ a b)
+
+  pub part-on : lo ≤ getD s i 0 → getD s i 0 ≤ hi → all lo hi (part i to s) ≡ all lo hi (part (i + 1) to s)
+  part-on a b = rw (part-here i to s) (all-on lo hi _ _ a b)
+
+pub part-end : (lo hi : ℕ) (s : List ℕ) (i to : ℕ) → to ≤ i → all lo hi (part i to s) ≡ true
+part-end lo hi s i to h = rw (part-none i to s h) (all-none lo hi)
+
+-- ---- a number, by places
+
+cond-false : (b : Bool) → cond b false false ≡ false
+cond-false true = refl
+cond-false false = refl
+
+other : (a b c : Bool) → cond a false (cond b false (cond c false false)) ≡ false
+other true b c = refl
+other false true c = refl
+other false false true = refl
+other false false false = refl
+
+module _ (t : List ℕ) where
+  pub number-empty : length t ≡ 0 → isNumber t ≡ false
+  unfolding isNumber
+  number-empty e = simp (eq-eqb (length t) 0 e)
+
+  pub number-long : 10 < length t → isNumber t ≡ false
+  unfolding isNumber
+  number-long h = simp (ne-eqb (length t) 0 (λ e. omega arith), lt-ltb 10 (length t) h)
+
+  pub number-zero : 1 < length t → length t ≤ 10 → getD t 0 0 ≡ 48 → isNumber t ≡ false
+  unfolding isNumber leadingZero
+  number-zero h k e =
+      simp (ne-eqb (length t) 0 (λ z. omega arith), le-ltb 10 (length t) k, lt-ltb 1 (length t) h, eq-eqb (getD t 0 0) 48 e)
+
+  no-zero : (length t ≤ 1) ⊎ (getD t 0 0 ≡ 48 → ⊥) → leadingZero t ≡ false
+  unfolding leadingZero
+  no-zero c =
+      ⊎-elim
+      (λ (h : length t ≤ 1). simp (le-ltb 1 (length t) h))
+      (λ (n : getD t 0 0 ≡ 48 → ⊥). rw (ne-eqb (getD t 0 0) 48 n) (cond-false (ltb 1 (length t))))
+      c
+
+  pub number-digits : 0 < length t → length t ≤ 10 → (length t ≤ 1) ⊎ (getD t 0 0 ≡ 48 → ⊥) → isNumber t ≡ all 48 57 t
+  unfolding isNumber
+  number-digits h k c = simp (ne-eqb (length t) 0 (λ e. omega arith), le-ltb 10 (length t) k, no-zero c)
+
+  pub number-other : all 48 57 t ≡ false → isNumber t ≡ false
+  unfolding isNumber
+  number-other e = rw e (other (eqb (length t) 0) (ltb 10 (length t)) (leadingZero t))
+
+-- Of the field that starts at `from` in a line that ends at `to`, digits of value v stand before place i.
+pub record Digits (s : List ℕ) (from to i v : ℕ) : Type 0 where
+  pub start : from ≤ i
+  pub within : i ≤ to + 1
+  pub inside : from ≤ to → i ≤ to
+  pub long : to ≤ length s
+  pub few : i - from ≤ 10
+  pub value : v < 10 ^ (i - from)
+  pub rest : all 48 57 (until 9 (part from to s)) ≡ all 48 57 (until 9 (part i to s))
+  pub sum : valueFrom 0 (until 9 (part from to s)) ≡ valueFrom v (until 9 (part i to s))
+  pub size : length (until 9 (part from to s)) ≡ (i - from) + length (until 9 (part i to s))
+
+pub digits-none : (s : List ℕ) (from to : ℕ) → from ≤ to + 1 → to ≤ length s → Digits s from to from 0
+digits-none s from to h k =
+    let z : from - from ≡ 0 = omega arith in
+    record {
+      start = omega arith;
+      within = h;
+      inside = λ l. l;
+      long = k;
+      few = omega arith;
+      value = rw z (omega arith);
+      rest = refl;
+      sum = refl;
+      size = omega arith;
+    }
+
+-- One digit more.
+pow-more : (v d k : ℕ) → v < 10 ^ k → d < 10 → v * 10 + d < 10 ^ suc k
+pow-more v d k h g = rw pow-suc (omega arith)
+
+pub digits-value : (s : List ℕ) (from to i v : ℕ) → Digits s from to i v → v < 10 ^ 10
+digits-value s from to i v z = omega (arith, z .value, pow-le-pow-right {n = 10} (omega arith) (z .few))
+
+module _ (s : List ℕ) (from to i v : ℕ) (z : Digits s from to i v) (h : i < to) where
+  -- The field at a byte that is not its end.
+  here : (getD s i 0 ≡ 9 → ⊥) → until 9 (part i to s) ≡ getD s i 0 ∷ until 9 (part (i + 1) to s)
+  here n = ap (until 9) (part-here i to s h (z .long)) ∙ until-pass 9 (getD s i 0) (part (i + 1) to s) n
+
+  pub digits-low : (getD s i 0 ≡ 9 → ⊥) → getD s i 0 < 48 → fieldAt from (part from to s) ≡ Malformed
+  unfolding fieldAt
+  digits-low n b =
+      rw (number-other (until 9 (part from to s)) (z .rest ∙ ap (all 48 57) (here n) ∙ all-low 48 57 _ _ b)) refl
+
+  pub digits-high : (getD s i 0 ≡ 9 → ⊥) → 48 ≤ getD s i 0 → 57 < getD s i 0 → fieldAt from (part from to s) ≡ Malformed
+  unfolding fieldAt
+  digits-high n a b =
+      rw (number-other (until 9 (part from to s)) (z .rest ∙ ap (all 48 57) (here n) ∙ all-high 48 57 _ _ a b)) refl
+
+  pub digits-long : (getD s i 0 ≡ 9 → ⊥) → 10 ≤ i - from → fieldAt from (part from to s) ≡ Malformed
+  unfolding fieldAt
+  digits-long n l =
+      rw (number-long (until 9 (part from to s)) (omega (arith, z .size, ap length (here n)))) refl
+
+  pub digits-more : (w : ℕ) → w ≡ v * 10 + (getD s i 0 - 48) → (getD s i 0 ≡ 9 → ⊥) → 48 ≤ getD s i 0 → getD s i 0 ≤ 57 → i - from < 10 → Digits s from to (i + 1) w
+  unfolding valueFrom
+  digits-more w q n a b l =
+      let e : i + 1 - from ≡ suc (i - from) = omega (arith, z .start) in
+      record {
+        start = omega (arith, z .start);
+        within = omega arith;
+        inside = λ _. omega arith;
+        long = z .long;
+        few = omega (arith, z .start);
+        value = rw (q, e) (pow-more v (getD s i 0 - 48) (i - from) (z .value) (omega arith));
+        rest = z .rest ∙ ap (all 48 57) (here n) ∙ all-on 48 57 _ _ a b;
+        sum = z .sum ∙ ap (valueFrom v) (here n) ∙ ap (λ (x : ℕ). valueFrom x (until 9 (part (i + 1) to s))) (sym q);
+        size = omega (arith, z .size, z .start, ap length (here n));
+      }
+
+-- The field ends at place i: at the line's end, or at a byte 9.
+pub ends-line : (s : List ℕ) (i to : ℕ) → to ≤ i → until 9 (part i to s) ≡ []
+ends-line s i to h = ap (until 9) (part-none i to s h) ∙ until-none 9
+
+pub ends-field : (s : List ℕ) (i to : ℕ) → i < to → to ≤ length s → getD s i 0 ≡ 9 → until 9 (part i to s) ≡ []
+ends-field s i to h k e = ap (until 9) (part-here i to s h k) ∙ until-hit 9 (getD s i 0) (part (i + 1) to s) e
+
+module _ (s : List ℕ) (from to i v : ℕ) (z : Digits s from to i v) (e : until 9 (part i to s) ≡ []) where
+  size-is : length (until 9 (part from to s)) ≡ i - from
+  size-is = omega (arith, z .size, ap length e)
+
+  pub field-empty : i ≡ from → fieldAt from (part from to s) ≡ Malformed
+  unfolding fieldAt
+  field-empty q = rw (number-empty (until 9 (part from to s)) (omega (arith, size-is))) refl
+
+  first : from < i → getD (until 9 (part from to s)) 0 0 ≡ getD s from 0
+  unfolding until
+  first l =
+      let n : from ≤ to = omega (arith, z .within) in
+      let m = z .inside n in
+      let b : 0 < before 9 (part from to s) = omega (arith, size-is, length-until 9 (part from to s)) in
+      getD-take _ _ 0 0 b ∙ ap (λ (t : List ℕ). getD t 0 0) (part-here from to s (omega arith) (z .long))
+
+  pub field-zero : 1 < i - from → getD s from 0 ≡ 48 → fieldAt from (part from to s) ≡ Malformed
+  unfolding fieldAt
+  field-zero l q =
+      rw (number-zero (until 9 (part from to s)) (omega (arith, size-is)) (omega (arith, size-is, z .few)) (first (omega arith) ∙ q)) refl
+
+  pub field-number : (i ≡ from → ⊥) → (i - from ≤ 1) ⊎ (getD s from 0 ≡ 48 → ⊥) → fieldAt from (part from to s) ≡ Number v (i + 1)
+  unfolding fieldAt valueFrom
+  field-number n c =
+      let l : from < i = omega (arith, z .start, n) in
+      let d : (length (until 9 (part from to s)) ≤ 1) ⊎ (getD (until 9 (part from to s)) 0 0 ≡ 48 → ⊥) =
+      ⊎-elim (λ (h : i - from ≤ 1). inl (omega (arith, size-is))) (λ (m : getD s from 0 ≡ 48 → ⊥). inr (λ q. m (sym (first l) ∙ q))) c in
+      let a = z .rest ∙ ap (all 48 57) e ∙ all-none 48 57 in
+      let w = z .sum ∙ ap (valueFrom v) e in
+      let p : from + before 9 (part from to s) + 1 ≡ i + 1 = omega (arith, size-is, length-until 9 (part from to s)) in
+      rw (number-digits (until 9 (part from to s)) (omega (arith, size-is)) (omega (arith, size-is, z .few)) d, a, w, p) refl

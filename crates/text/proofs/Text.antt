@@ -1,0 +1,138 @@
+-- Laws of lines and fields: by the first byte of a text, and by places of a longer one.
+-- Assumes nothing.
+use mathlib.Core.Path.{_≡_, refl, ap, _∙_}
+use mathlib.Core.List.{List, [], _∷_}
+use Prim.Native.Nat.{ℕ, zero, suc, _+_, _-_, _≤_, _<_}
+use native.Mathlib.Decide.{ℕ-discrete}
+use native.Mathlib.Numerals.{add-one}
+use native.Mathlib.Omega.{arith}
+use lib.ListN.{length, getD, drop, length-take, length-drop}
+use lib.Seq.{drop-cons}
+use borrow.Author.Tests.{eq-eqb, ne-eqb}
+use Rattle.text.specs.Line.{LineAt}
+use Rattle.text.specs.Text.{before, until, count, part}
+
+-- ---- by the first byte
+
+module _ (b c : ℕ) (t : List ℕ) where
+  pub before-hit : c ≡ b → before b (c ∷ t) ≡ 0
+  unfolding before
+  before-hit e = simp (eq-eqb c b e)
+
+  pub before-pass : (c ≡ b → ⊥) → before b (c ∷ t) ≡ suc (before b t)
+  unfolding before
+  before-pass n = simp (ne-eqb c b n)
+
+  pub until-hit : c ≡ b → until b (c ∷ t) ≡ []
+  unfolding until
+  until-hit e = rw (before-hit e) refl
+
+  pub until-pass : (c ≡ b → ⊥) → until b (c ∷ t) ≡ c ∷ until b t
+  unfolding until
+  until-pass n = rw (before-pass n) refl
+
+  pub count-hit : c ≡ b → count b (c ∷ t) ≡ suc (count b t)
+  unfolding count
+  count-hit e = simp (eq-eqb c b e)
+
+  pub count-pass : (c ≡ b → ⊥) → count b (c ∷ t) ≡ count b t
+  unfolding count
+  count-pass n = simp (ne-eqb c b n)
+
+pub before-none : (b : ℕ) → before b [] ≡ 0
+unfolding before
+before-none b = refl
+
+pub until-none : (b : ℕ) → until b [] ≡ []
+unfolding until before
+until-none b = refl
+
+pub count-none : (b : ℕ) → count b [] ≡ 0
+unfolding count
+count-none b = refl
+
+-- ---- parts of a text
+
+pub drop-none : (s : List ℕ) (i : ℕ) → length s ≤ i → drop i s ≡ []
+drop-none [] zero h = refl
+drop-none [] (suc i) h = refl
+drop-none (x ∷ s) zero h = absurd (omega arith)
+drop-none (x ∷ s) (suc i) h = drop-none s i (omega arith)
+
+pub drop-here : (s : List ℕ) (i : ℕ) → i < length s → drop i s ≡ getD s i 0 ∷ drop (i + 1) s
+drop-here s i h = rw add-one (drop-cons s i 0 h)
+
+pub part-none : (a e : ℕ) (s : List ℕ) → e ≤ a → part a e s ≡ []
+unfolding part
+part-none a e s h = let z : e - a ≡ 0 = omega arith in rw z
+
+pub part-here : (a e : ℕ) (s : List ℕ) → a < e → e ≤ length s → part a e s ≡ getD s a 0 ∷ part (a + 1) e s
+unfolding part
+part-here a e s h k =
+    let z : e - a ≡ suc (e - (a + 1)) = omega arith in
+    let l : a < length s = omega arith in
+    rw (z, drop-here s a)
+
+pub length-part : (a e : ℕ) (s : List ℕ) → e ≤ length s → length (part a e s) ≡ e - a
+unfolding part
+length-part a e s k = simp (length-take, length-drop) (omega arith)
+
+pub before-le : (b : ℕ) (t : List ℕ) → before b t ≤ length t
+unfolding before
+before-le b [] = omega arith
+before-le b (c ∷ t) =
+    elim (ℕ-discrete c b) [
+      | yes e ↦ rw (eq-eqb c b e) (omega arith)
+      | no n ↦ rw (ne-eqb c b n) (omega (arith, before-le b t))
+    ]
+
+pub length-until : (b : ℕ) (t : List ℕ) → length (until b t) ≡ before b t
+unfolding until
+length-until b t = let h = before-le b t in simp length-take (omega arith)
+
+-- ---- scanning a line
+
+-- From place `from` on no byte 10 stands before place i, and `tabs` bytes 9 do.
+pub record Scanned (s : List ℕ) (from i tabs : ℕ) : Type 0 where
+  pub start : from ≤ i
+  pub within : i ≤ length s
+  pub few : tabs ≤ i
+  pub end : from + before 10 (drop from s) ≡ i + before 10 (drop i s)
+  pub seen : count 9 (until 10 (drop from s)) ≡ tabs + count 9 (until 10 (drop i s))
+
+pub scanned-none : (s : List ℕ) (from : ℕ) → from ≤ length s → Scanned s from from 0
+scanned-none s from h = omega arith
+
+module _ (s : List ℕ) (from i tabs : ℕ) (z : Scanned s from i tabs) (h : i < length s) where
+  pub scanned-byte : (k : ℕ) → k ≡ tabs → (getD s i 0 ≡ 10 → ⊥) → (getD s i 0 ≡ 9 → ⊥) → Scanned s from (i + 1) k
+  scanned-byte k q n m =
+      let d = drop-here s i h in
+      let e = ap (before 10) d ∙ before-pass 10 (getD s i 0) (drop (i + 1) s) n in
+      let u = ap (until 10) d ∙ until-pass 10 (getD s i 0) (drop (i + 1) s) n in
+      let v = ap (count 9) u ∙ count-pass 9 (getD s i 0) (until 10 (drop (i + 1) s)) m in
+      omega arith
+
+  pub scanned-tab : (k : ℕ) → k ≡ tabs + 1 → getD s i 0 ≡ 9 → Scanned s from (i + 1) k
+  scanned-tab k q m =
+      let n : getD s i 0 ≡ 10 → ⊥ = λ w. omega arith in
+      let d = drop-here s i h in
+      let e = ap (before 10) d ∙ before-pass 10 (getD s i 0) (drop (i + 1) s) n in
+      let u = ap (until 10) d ∙ until-pass 10 (getD s i 0) (drop (i + 1) s) n in
+      let v = ap (count 9) u ∙ count-hit 9 (getD s i 0) (until 10 (drop (i + 1) s)) m in
+      omega arith
+
+  pub scanned-end : getD s i 0 ≡ 10 → LineAt s from (record { end = i; tabs = tabs })
+  scanned-end m =
+      let d = drop-here s i h in
+      let e = ap (before 10) d ∙ before-hit 10 (getD s i 0) (drop (i + 1) s) m in
+      let u = ap (until 10) d ∙ until-hit 10 (getD s i 0) (drop (i + 1) s) m in
+      let v = ap (count 9) u ∙ count-none 9 in
+      record { end = omega arith; tabs = omega arith; within = omega arith }
+
+pub scanned-all : (s : List ℕ) (from i tabs : ℕ) → Scanned s from i tabs → length s ≤ i → LineAt s from (record { end = i; tabs = tabs })
+scanned-all s from i tabs z h =
+    let d = drop-none s i h in
+    let e = ap (before 10) d ∙ before-none 10 in
+    let u = ap (until 10) d ∙ until-none 10 in
+    let v = ap (count 9) u ∙ count-none 9 in
+    record { end = omega arith; tabs = omega arith; within = omega arith }
