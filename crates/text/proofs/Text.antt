@@ -3,14 +3,15 @@
 use mathlib.Core.Path.{_≡_, refl, ap, _∙_}
 use mathlib.Core.List.{List, [], _∷_}
 use Prim.Native.Nat.{ℕ, zero, suc, _+_, _-_, _≤_, _<_}
+use native.Mathlib.Nat.{sub-zero, zero-sub, suc-sub-suc}
 use native.Mathlib.Decide.{ℕ-discrete}
 use native.Mathlib.Numerals.{add-one}
 use native.Mathlib.Omega.{arith}
-use lib.ListN.{length, getD, drop, length-take, length-drop}
-use lib.Seq.{drop-cons}
+use lib.ListN.{length, getD, take, drop, length-take, length-drop}
+use lib.Seq.{drop-cons, take-nil, drop-drop}
 use borrow.Author.Tests.{eq-eqb, ne-eqb}
 use Rattle.text.specs.Line.{LineAt}
-use Rattle.text.specs.Text.{before, until, count, part}
+use Rattle.text.specs.Text.{before, until, beyond, count, part}
 
 -- ---- by the first byte
 
@@ -77,6 +78,23 @@ pub length-part : (a e : ℕ) (s : List ℕ) → e ≤ length s → length (part
 unfolding part
 length-part a e s k = simp (length-take, length-drop) (omega arith)
 
+drop-take : (n m : ℕ) (l : List ℕ) → drop n (take m l) ≡ take (m - n) (drop n l)
+drop-take zero m l = rw sub-zero
+drop-take (suc n) zero l = rw zero-sub refl
+drop-take (suc n) (suc m) [] = rw (take-nil (suc m - suc n))
+drop-take (suc n) (suc m) (x ∷ l) = rw suc-sub-suc (drop-take n m l)
+
+pub drop-part : (n a e : ℕ) (s : List ℕ) → drop n (part a e s) ≡ part (a + n) e s
+unfolding part
+drop-part n a e s = let z : e - a - n ≡ e - (a + n) = omega arith in rw (drop-take n (e - a) (drop a s), drop-drop n a s, z)
+
+-- What comes after a field of a line starts one place behind the field.
+pub beyond-part : (b p e : ℕ) (s : List ℕ) → beyond b (part p e s) ≡ part (p + before b (part p e s) + 1) e s
+unfolding beyond
+beyond-part b p e s =
+    let z : p + suc (before b (part p e s)) ≡ p + before b (part p e s) + 1 = omega arith in
+    drop-part (suc (before b (part p e s))) p e s ∙ ap (λ (n : ℕ). part n e s) z
+
 pub before-le : (b : ℕ) (t : List ℕ) → before b t ≤ length t
 unfolding before
 before-le b [] = omega arith
@@ -89,6 +107,16 @@ before-le b (c ∷ t) =
 pub length-until : (b : ℕ) (t : List ℕ) → length (until b t) ≡ before b t
 unfolding until
 length-until b t = let h = before-le b t in simp length-take (omega arith)
+
+-- Where there is a byte b, one is ahead.
+pub count-ahead : (b : ℕ) (t : List ℕ) → 0 < count b t → before b t < length t
+unfolding before count
+count-ahead b [] h = omega arith
+count-ahead b (c ∷ t) h =
+    elim (ℕ-discrete c b) [
+      | yes e ↦ rw (eq-eqb c b e) (omega arith)
+      | no n ↦ rw (ne-eqb c b n) (omega (arith, count-ahead b t (rw (ne-eqb c b n) at h)))
+    ]
 
 -- ---- scanning a line
 

@@ -1,0 +1,53 @@
+use mathlib.Core.Path.{_≡_, ap, sym, _∙_}
+use mathlib.Core.Bool.{true}
+use Prim.Native.Nat.{ℕ, _+_, _-_}
+use native.Mathlib.Omega.{arith}
+use lib.ListN.{replicate}
+use borrow.Author.Needs.{needs}
+use borrow.Author.Tests.{not-true, not-false}
+use Rattle.text.specs.Text.{part}
+use Rattle.rows.specs.Row.{opens, numbersFrom}
+use Rattle.rows.proofs.Row.{opens-some, row-shape, row-numbers}
+use Rattle.rows.proofs.read_row.Statement.{statement}
+use Rattle.rows.proofs.read_row.Tie as tie
+use Rattle.rows.proofs.read_row.Reads as reads
+use Rattle.rows.proofs.read_row.Lts as lts
+use Rattle.rows.proofs.opens_with.Reads as opens-with-reads
+use Rattle.rows.proofs.read_numbers.Reads as read-numbers-reads
+
+-- src/lib.rt:109:9
+opens-with-requires : tie.Need-opens-with-requires
+opens-with-requires c κs = search needs
+
+-- src/lib.rt:110:9
+returns : tie.Need-returns
+returns c =
+    let a = c .before .before .before .args in
+    row-shape _ _ _ (a .letter) (a .k) (a .lo) (a .hi) (search needs) (search needs) (sym (c .before .opens-with .ensures) ∙ not-true _ (c .if1 .taken))
+
+opened : (c : tie.Else1) → opens (c .before .before .before .args .letter) (c .before .before .before .args .k) (part (c .before .before .before .args .from) (c .before .before .before .args .to) (c .before .before .before .args .s .now)) ≡ true
+opened c = sym (c .before .opens-with .ensures) ∙ not-false _ (c .if1 .left)
+
+-- src/lib.rt:116:21
+add-read-numbers : tie.Need-add-read-numbers
+add-read-numbers c = search needs
+
+-- src/lib.rt:116:5
+read-numbers-requires : tie.Need-read-numbers-requires
+read-numbers-requires c κs =
+    let o = opened c in
+    let l = opens-some _ _ _ _ _ (search needs) (search needs) o in
+    search needs
+
+-- src/lib.rt:95:1
+returns-2 : tie.Need-returns-2
+returns-2 c =
+    let a = c .before .before .before .before .args in
+    let z : a .k - 0 ≡ a .k = omega arith in
+    row-numbers _ _ _ (a .letter) (a .k) (a .lo) (a .hi) (search needs) (search needs) _ (opened (c .before))
+    (c .read-numbers .ensures .0 ∙ ap (λ (m : ℕ). numbersFrom (a .lo) (a .hi) m 0 (part (a .from + 2) (a .to) (a .s .now)) (replicate 10 0)) z)
+
+pub read-row-spec : {M : Type 1} → statement M
+read-row-spec =
+    tie.close
+    (tie.spec opens-with-requires returns add-read-numbers read-numbers-requires returns-2)
