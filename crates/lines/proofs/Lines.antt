@@ -1,0 +1,192 @@
+-- Laws of lines and their places in the store: what each test of the reader says.
+-- Assumes nothing.
+use mathlib.Core.Path.{_≡_, refl, ap, sym, _∙_}
+use mathlib.Core.List.{List, [], _∷_}
+use Prim.Native.Nat.{ℕ, suc, _+_, _-_, _≤_, _<_}
+use native.Mathlib.Omega.{arith}
+use lib.ListN.{length, getD, set, replicate, drop, length-set}
+use borrow.Author.Tests.{lt-ltb, le-ltb, eq-eqb, ne-eqb}
+use types.Run.{OneOf, miss}
+use denote.Enum.Declared.{tagOf}
+use Rattle.rows.proofs.Fault.{the-type}
+use Rattle.thermal.specs.Thermal.{steadyState}
+use Rattle.text.specs.Text.{until, part}
+use Rattle.text.specs.Line.{LineAt}
+use Rattle.text.specs.declared.Line.{Line}
+use Rattle.text.proofs.Scanned.{line-part, line-ahead, line-missing, line-beyond}
+use Rattle.rows.specs.Row.{Row, rowOf}
+use Rattle.rows.specs.declared.Fault.{Fault}
+use Rattle.rows.specs.declared.Fault.the-variants.{Sound, Shape, Form, Range}
+use Rattle.lines.specs.declared.Kind.{Kind}
+use Rattle.lines.specs.declared.Kind.the-variants.{Level, Change, Work}
+use Rattle.lines.specs.Lines.{after, steadyRow, levelRow, changeRow, workRow, rowFor, put, placesOf, blockFrom, BlockRead}
+
+-- A fault that is not `Sound`, as a match leaves it.
+abbrev pub Other : Fault → Type 0
+Other g = OneOf (1 ∷ 2 ∷ 3 ∷ []) (tagOf the-type g)
+
+pub after-other : {X : Type 0} (g : Fault) (stop go : X) → Other g → after g stop go ≡ stop
+after-other Sound stop go h = absurd (miss (1 ∷ 2 ∷ 3 ∷ []) 0 tt h)
+after-other Shape stop go h = refl
+after-other (Form f) stop go h = refl
+after-other (Range f) stop go h = refl
+
+-- ---- one line
+
+module _ (resistance : ℕ) (line : List ℕ) (row : Row) (e : row ≡ rowOf 76 1 (replicate 10 0) (100000 ∷ replicate 9 0) line) where
+  pub level-other : Other (row .fault) → row ≡ levelRow resistance line
+  unfolding levelRow steadyRow
+  level-other h = rw (← e) (sym (after-other (row .fault) row _ h))
+
+  pub level-hot : row .fault ≡ Sound → 20000 < steadyState (getD (row .values) 0 0) resistance →
+      record { fault = Range 2; values = row .values; rest = row .rest } ≡ levelRow resistance line
+  unfolding levelRow steadyRow
+  level-hot f h = rw (← e, f, lt-ltb 20000 (steadyState (getD (row .values) 0 0) resistance) h) refl
+
+  pub level-sound : row .fault ≡ Sound → steadyState (getD (row .values) 0 0) resistance ≤ 20000 → row ≡ levelRow resistance line
+  unfolding levelRow steadyRow
+  level-sound f h = rw (← e, f, le-ltb 20000 (steadyState (getD (row .values) 0 0) resistance) h) refl
+
+module _ (kind : Kind) (j : ℕ) (line : List ℕ) (row : Row) where
+  pub for-level : (resistance : ℕ) → kind ≡ Level resistance → row ≡ levelRow resistance line → row ≡ rowFor kind j line
+  unfolding rowFor
+  for-level resistance k e = rw k e
+
+  pub for-self : (p : ℕ) → kind ≡ Change p → j ≡ p → row ≡ rowOf 83 2 (replicate 10 0) (replicate 10 0) line → row ≡ rowFor kind j line
+  unfolding rowFor changeRow
+  for-self p k q e = rw (k, eq-eqb j p q) e
+
+  pub for-change : (p : ℕ) → kind ≡ Change p → (j ≡ p → ⊥) →
+      row ≡ rowOf 83 2 (replicate 10 0) (10000000 ∷ 10000000 ∷ replicate 8 0) line → row ≡ rowFor kind j line
+  unfolding rowFor changeRow
+  for-change p k n e = rw (k, ne-eqb j p n) e
+
+  pub for-work : kind ≡ Work → row ≡ rowOf 66 3 (1 ∷ replicate 9 0) (10000000 ∷ 10000000 ∷ 65536 ∷ replicate 7 0) line → row ≡ rowFor kind j line
+  unfolding rowFor workRow
+  for-work k e = rw k e
+
+-- ---- many lines
+
+module _ (s : List ℕ) (kind : Kind) (b n j p ln : ℕ) (st : List ℕ) (h : j < n) (r : Line) (z : LineAt s p r) where
+  left : n - j ≡ suc (n - (j + 1))
+  left = omega arith
+
+  pub block-missing : length s ≤ r .end → p ≤ length s →
+      record { fault = Shape; line = ln; rest = drop p s; store = st } ≡ blockFrom kind b (n - j) j (drop p s) ln st
+  unfolding blockFrom
+  block-missing l k = rw (left, line-missing z l k) refl
+
+  module _ (l : r .end < length s) (row : Row) (e : row ≡ rowFor kind j (part p (r .end) s)) where
+    same : rowFor kind j (until 10 (drop p s)) ≡ row
+    same = ap (rowFor kind j) (sym (line-part z)) ∙ sym e
+
+    pub block-fault : Other (row .fault) →
+        record { fault = row .fault; line = ln; rest = drop p s; store = st } ≡ blockFrom kind b (n - j) j (drop p s) ln st
+    unfolding blockFrom
+    block-fault o = rw (left, line-ahead z l, same) (sym (after-other (row .fault) _ _ o))
+
+    pub block-on : row .fault ≡ Sound →
+        blockFrom kind b (n - j) j (drop p s) ln st ≡ blockFrom kind b (n - (j + 1)) (j + 1) (drop (r .end + 1) s) (ln + 1) (put kind (b + j) (row .values) st)
+    unfolding blockFrom
+    block-on f = rw (left, line-ahead z l, same, f, line-beyond z) refl
+
+pub block-end : (s : List ℕ) (kind : Kind) (b n j p ln : ℕ) (st : List ℕ) → n ≤ j →
+    record { fault = Sound; line = ln; rest = drop p s; store = st } ≡ blockFrom kind b (n - j) j (drop p s) ln st
+unfolding blockFrom
+block-end s kind b n j p ln st h = let w : n - j ≡ 0 = omega arith in rw w refl
+
+-- Putting a line's values keeps the store's length.
+pub put-length : (kind : Kind) (k : ℕ) (vs st : List ℕ) → length (put kind k vs st) ≡ length st
+unfolding put
+put-length (Level resistance) k vs st = simp length-set
+put-length (Change p) k vs st = simp length-set
+put-length Work k vs st = simp length-set
+
+module _ (kind : Kind) (k : ℕ) (vs st : List ℕ) where
+  pub put-level : (resistance : ℕ) → kind ≡ Level resistance → set st k (getD vs 0 0) ≡ put kind k vs st
+  unfolding put
+  put-level resistance e = rw e refl
+
+  pub put-change : (p : ℕ) → kind ≡ Change p → set (set st (8 + k) (getD vs 0 0)) (72 + k) (getD vs 1 0) ≡ put kind k vs st
+  unfolding put
+  put-change p e = rw e refl
+
+  pub put-work : kind ≡ Work → set (set (set st (136 + k) (getD vs 0 0)) (648 + k) (getD vs 1 0)) (1160 + k) (getD vs 2 0) ≡ put kind k vs st
+  unfolding put
+  put-work e = rw e refl
+
+-- A row place lies in the part of the store that the kind has.
+module _ (kind : Kind) (k : ℕ) (h : k < placesOf kind) where
+  pub few-levels : (resistance : ℕ) → kind ≡ Level resistance → k < 8
+  few-levels resistance e = rw e at h
+
+  pub few-changes : (p : ℕ) → kind ≡ Change p → k < 64
+  few-changes p e = rw e at h
+
+  pub few-works : kind ≡ Work → k < 512
+  few-works e = rw e at h
+
+-- ---- a block of n lines, j of them read
+
+pub record Going (s : List ℕ) (at line : ℕ) (kind : Kind) (b n : ℕ) (old store : List ℕ) (p j : ℕ) : Type 0 where
+  pub most : j ≤ n
+  pub within : p ≤ length s
+  pub long : length store ≡ 1672
+  pub rest : blockFrom kind b n 0 (drop at s) line old ≡ blockFrom kind b (n - j) j (drop p s) (line + j) store
+
+pub going-none : (s : List ℕ) (at line : ℕ) (kind : Kind) (b n : ℕ) (old : List ℕ) → at ≤ length s → length old ≡ 1672 →
+    Going s at line kind b n old old at 0
+going-none s at line kind b n old h l =
+    let z : n - 0 ≡ n = omega arith in
+    let y : line + 0 ≡ line = omega arith in
+    record { most = omega arith; within = h; long = l; rest = rw (z, y) refl }
+
+module _ {s : List ℕ} {at line : ℕ} {kind : Kind} {b n : ℕ} {old store : List ℕ} {p j : ℕ} (g : Going s at line kind b n old store p j) where
+  pub going-all : n ≤ j → BlockRead s at line kind b n old store (record { fault = Sound; line = line + n; at = p })
+  going-all h =
+      let z : line + n ≡ line + j = omega (arith, g .most) in
+      record {
+        found = rw z (block-end s kind b n j p (line + j) store h) ∙ sym (g .rest);
+        within = g .within;
+        lines = omega arith;
+        long = g .long;
+      }
+
+  module _ (h : j < n) (r : Line) (z : LineAt s p r) where
+    pub going-missing : r .end ≡ length s → BlockRead s at line kind b n old store (record { fault = Shape; line = line + j; at = p })
+    going-missing l =
+        record {
+          found = block-missing s kind b n j p (line + j) store h r z (omega arith) (g .within) ∙ sym (g .rest);
+          within = g .within;
+          lines = omega arith;
+          long = g .long;
+        }
+
+    module _ (l : r .end ≡ length s → ⊥) (row : Row) (e : row ≡ rowFor kind j (part p (r .end) s)) where
+      inside : r .end < length s
+      inside = omega (arith, z .within, l)
+
+      pub going-fault : Other (row .fault) → BlockRead s at line kind b n old store (record { fault = row .fault; line = line + j; at = p })
+      going-fault o =
+          record {
+            found = block-fault s kind b n j p (line + j) store h r z inside row e o ∙ sym (g .rest);
+            within = g .within;
+            lines = omega arith;
+            long = g .long;
+          }
+
+      pub going-on : row .fault ≡ Sound → (new : List ℕ) → new ≡ put kind (b + j) (row .values) store →
+          Going s at line kind b n old new (r .end + 1) (j + 1)
+      going-on f new q =
+          let y : line + (j + 1) ≡ line + j + 1 = omega arith in
+          record {
+            most = omega arith;
+            within = omega (arith, inside);
+            long = ap length q ∙ put-length kind (b + j) (row .values) store ∙ g .long;
+            rest = rw (y, q) (g .rest ∙ block-on s kind b n j p (line + j) store h r z inside row e f);
+          }
+
+pub places-most : (kind : Kind) → placesOf kind ≤ 512
+places-most (Level resistance) = omega arith
+places-most (Change p) = omega arith
+places-most Work = omega arith
