@@ -15,6 +15,18 @@ use Rattle.frame.specs.Demands.{LevelList, endTime, Feasible, infeasible
 use Rattle.frame.proofs.Plan.{least-of-bounded, least-from}
 use Rattle.frame.proofs.Demand2.{keeps-by, least-end, plan-keeps, plan-end}
 
+-- What a word holds in words leaves one number.
+pub least-time-unique : (s : Sheet) (n : ℕ) (a : State) (x y : ℕ) → LeastTime s n a x → LeastTime s n a y → x ≡ y
+least-time-unique s n a x y h k =
+    elim (decLt x infeasible) [
+      | yes l ↦
+          let p = h .reached l in
+          let q : y ≤ x = omega (arith, k .least (p .0) (p .1), p .2) in
+          let r = k .reached (omega arith) in
+          omega (arith, h .least (r .0) (r .1), r .2)
+      | no l ↦ let e : x ≡ infeasible = omega (arith, h .most) in omega (arith, k .none .1 (h .none .0 e))
+    ]
+
 module _ (s : Sheet) (ok : Ranges s) where
   -- A job with its change takes at most 20 seconds.
   run-short : (js : List ℕ) (a : State) → endTime s a js ≤ a.time + length js * 20000000

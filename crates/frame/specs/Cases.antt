@@ -9,17 +9,18 @@ use lib.IntN.{ℤ, pos, negℤ}
 use lib.ListN.{getD}
 use Rattle.thermal.specs.Thermal.{steadyState, temperatureAfter}
 use Rattle.frame.specs.Sheet.{Sheet}
-use Rattle.frame.specs.Run.{start}
-use Rattle.frame.specs.Limits.{energySlack, temperatureSlack, Margins, margins}
+use Rattle.frame.specs.Run.{start, roundedRun}
+use Rattle.frame.specs.Limits.{Limits, energySlack, temperatureSlack, tightened, Margins, margins}
 use Rattle.frame.specs.Demands.{Outcome, planned, noPlan, Figures, figures}
 use Rattle.frame.specs.Plan.{frameOutcome}
 use Rattle.frame.specs.Table.{need, place, word}
 
--- What a case has for an answer: a plan's levels and figures, a refusal's number, a measured list's margins, or a number.
+-- What a case has for an answer: a plan's levels and figures, a refusal's number, a measured list's margins, limits, or a number.
 pub data Answer : Type 0 where
   planIs : List ℕ → Figures → Answer
   refusalIs : ℕ → Answer
   marginsAre : Margins → Answer
+  limitsAre : Limits → Answer
   numberIs : ℕ → Answer
 
 -- The answer for a sheet's own frame; "no plan" is refusal 10.
@@ -85,14 +86,15 @@ cooling =
     ((0 ∷ 0 ∷ []) ∷ [])
     ((30 ∷ 20 ∷ 32768 ∷ []) ∷ [])
 
--- A sheet of our own in which no figure that a list reads can be taken for another; the first job changes level.
-abbrev pub unequal : Sheet
-unequal =
+-- A sheet of our own with three jobs and three levels, on which no change is like its way back and no figure of a kind like
+-- another; the first job may change level.
+abbrev pub unequal : ℕ → ℕ → ℕ → Sheet
+unequal D W C =
     sheetOf
-    (2 ∷ 2 ∷ 1 ∷ 150 ∷ 100 ∷ 1625 ∷ 1000 ∷ 2000 ∷ 10 ∷ 25 ∷ [])
-    (7000 ∷ 13000 ∷ [])
-    ((0 ∷ 0 ∷ []) ∷ (5 ∷ 11 ∷ []) ∷ (3 ∷ 7 ∷ []) ∷ (0 ∷ 0 ∷ []) ∷ [])
-    ((100 ∷ 20 ∷ 16384 ∷ []) ∷ (61 ∷ 33 ∷ 32768 ∷ []) ∷ (90 ∷ 24 ∷ 8192 ∷ []) ∷ (47 ∷ 40 ∷ 49152 ∷ []) ∷ [])
+    (3 ∷ 3 ∷ 1 ∷ D ∷ W ∷ C ∷ 1010 ∷ 2000 ∷ 10 ∷ 25 ∷ [])
+    (7000 ∷ 13000 ∷ 16000 ∷ [])
+    ((0 ∷ 0 ∷ []) ∷ (5 ∷ 11 ∷ []) ∷ (2 ∷ 13 ∷ []) ∷ (3 ∷ 7 ∷ []) ∷ (0 ∷ 0 ∷ []) ∷ (6 ∷ 17 ∷ []) ∷ (4 ∷ 19 ∷ []) ∷ (8 ∷ 23 ∷ []) ∷ (0 ∷ 0 ∷ []) ∷ [])
+    ((100 ∷ 20 ∷ 16384 ∷ []) ∷ (61 ∷ 33 ∷ 32768 ∷ []) ∷ (41 ∷ 52 ∷ 24576 ∷ []) ∷ (90 ∷ 24 ∷ 8192 ∷ []) ∷ (47 ∷ 40 ∷ 49152 ∷ []) ∷ (35 ∷ 58 ∷ 40960 ∷ []) ∷ (80 ∷ 26 ∷ 4096 ∷ []) ∷ (53 ∷ 37 ∷ 57344 ∷ []) ∷ (29 ∷ 60 ∷ 20480 ∷ []) ∷ [])
 
 -- What the definitions give, and what is expected of them.
 pub record Case : Type 0 where
@@ -117,6 +119,14 @@ measures s js time energy temperature =
     record {
       given = marginsAre (margins s js);
       expected = marginsAre (record { time = time; energy = energy; temperature = temperature });
+    }
+
+-- The tightened limits of a sheet.
+abbrev pub tightens : Sheet → ℤ → ℤ → ℤ → Case
+tightens s time energy temperature =
+    record {
+      given = limitsAre (tightened s);
+      expected = limitsAre (record { time = time; energy = energy; temperature = temperature });
     }
 
 -- A figure by itself.
@@ -170,6 +180,19 @@ cases T s =
     ∷ measures (sheet 50 100 2500 10 100) (1 ∷ 0 ∷ []) (pos 1) (pos 24) (pos 0)
     -- by hand: 50 - 30, 100 - 20, and 2,500 - 1,000, as the start temperature does not count
     ∷ measures cooling (0 ∷ []) (pos 20) (pos 80) (pos 1500)
-    -- by hand: 3 + 100 + 5 + 47 = 155, 7 + 20 + 11 + 40 = 78, and 1,000 goes to 250 + 1,050 = 1,300, then to 975 + 650 = 1,625
-    ∷ measures unequal (0 ∷ 1 ∷ []) (negℤ (pos 5)) (pos 22) (pos 0)
+    -- by hand: its plan ends cooler than it starts
+    ∷ plans cooling (0 ∷ []) 30 20 1000
+    -- by hand: the figures of the exact run, from a start temperature that is no multiple of h; and A and B rounded up
+    ∷ plans (sheet 58 100 2500 10 300) (0 ∷ 0 ∷ []) 58 45 1750
+    ∷ gives (need (sheet 50 77 2499 10 100)) 936
+    -- by hand: 6 + 41 + 4 + 90 + 5 + 53 = 199, 17 + 52 + 19 + 24 + 11 + 37 = 160, and 1,010 goes to 2,379, 1,523 and 1,658
+    ∷ measures (unequal 300 200 2500) (2 ∷ 0 ∷ 1 ∷ []) (pos 101) (pos 40) (pos 121)
+    -- by hand: of all 27 lists the one of least time; 1,010 goes to 1,303, 1,628 and 1,415
+    ∷ plans (unequal 300 130 1700) (0 ∷ 1 ∷ 0 ∷ []) 238 111 1415
+    -- by hand: the tightened limits, and where they fall below zero
+    ∷ tightens (sheet 50 100 2500 10 100) (pos 50) (pos 91) (pos 2302)
+    ∷ tightens (sheet 50 5 100 10 100) (pos 50) (negℤ (pos 4)) (negℤ (pos 98))
+    -- "log ends at 2,500, send starts from 3,000 and ends at 2,500", with energy 48 raised to 50
+    ∷ gives ((roundedRun (sheet 50 100 2500 10 1000) (start (sheet 50 100 2500 10 1000)) (1 ∷ 0 ∷ [])) .temperature) 2500
+    ∷ gives ((roundedRun (sheet 50 100 2500 10 1000) (start (sheet 50 100 2500 10 1000)) (1 ∷ 0 ∷ [])) .energy) 78
     ∷ []

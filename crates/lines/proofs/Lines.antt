@@ -19,7 +19,7 @@ use Rattle.rows.specs.declared.Fault.{Fault}
 use Rattle.rows.specs.declared.Fault.the-variants.{Sound, Shape, Form, Range}
 use Rattle.lines.specs.declared.Kind.{Kind}
 use Rattle.lines.specs.declared.Kind.the-variants.{Level, Change, Work}
-use Rattle.lines.specs.Lines.{after, steadyRow, levelRow, changeRow, workRow, rowFor, put, placesOf, blockFrom, BlockRead}
+use Rattle.lines.specs.Lines.{after, steadyRow, levelRow, changeRow, workRow, rowFor, put, placesOf, blockFrom, Reads}
 
 -- A fault that is not `Sound`, as a match leaves it.
 abbrev pub Other : Fault → Type 0
@@ -142,7 +142,7 @@ going-none s at line kind b n old h l =
     record { most = omega arith; within = h; long = l; rest = rw (z, y) refl }
 
 module _ {s : List ℕ} {at line : ℕ} {kind : Kind} {b n : ℕ} {old store : List ℕ} {p j : ℕ} (g : Going s at line kind b n old store p j) where
-  pub going-all : n ≤ j → BlockRead s at line kind b n old store (record { fault = Sound; line = line + n; at = p })
+  pub going-all : n ≤ j → Reads s (blockFrom kind b n 0 (drop at s) line old) (line + n) store (record { fault = Sound; line = line + n; at = p })
   going-all h =
       let z : line + n ≡ line + j = omega (arith, g .most) in
       record {
@@ -153,7 +153,7 @@ module _ {s : List ℕ} {at line : ℕ} {kind : Kind} {b n : ℕ} {old store : L
       }
 
   module _ (h : j < n) (r : Line) (z : LineAt s p r) where
-    pub going-missing : r .end ≡ length s → BlockRead s at line kind b n old store (record { fault = Shape; line = line + j; at = p })
+    pub going-missing : r .end ≡ length s → Reads s (blockFrom kind b n 0 (drop at s) line old) (line + n) store (record { fault = Shape; line = line + j; at = p })
     going-missing l =
         record {
           found = block-missing s kind b n j p (line + j) store h r z (omega arith) (g .within) ∙ sym (g .rest);
@@ -166,7 +166,7 @@ module _ {s : List ℕ} {at line : ℕ} {kind : Kind} {b n : ℕ} {old store : L
       inside : r .end < length s
       inside = omega (arith, z .within, l)
 
-      pub going-fault : Other (row .fault) → BlockRead s at line kind b n old store (record { fault = row .fault; line = line + j; at = p })
+      pub going-fault : Other (row .fault) → Reads s (blockFrom kind b n 0 (drop at s) line old) (line + n) store (record { fault = row .fault; line = line + j; at = p })
       going-fault o =
           record {
             found = block-fault s kind b n j p (line + j) store h r z inside row e o ∙ sym (g .rest);

@@ -85,10 +85,10 @@ blockFrom kind b (suc n) j t ln st =
 abbrev pub foundIn : List ℕ → Stop → List ℕ → Found
 foundIn s r st = record { fault = r .fault; line = r .line; rest = drop (r .at) s; store = st }
 
--- n lines of a kind were read from line ln on, which starts at place p: what was found, and that the place where the reading
--- stopped is in the text.
-pub record BlockRead (s : List ℕ) (p ln : ℕ) (kind : Kind) (b n : ℕ) (old new : List ℕ) (r : Stop) : Type 0 where
-  pub found : foundIn s r new ≡ blockFrom kind b n 0 (drop p s) ln old
+-- Lines of the text s were read: what was found, with the store that it left, where the reading stopped, at a place of the
+-- text and at most at line `most`.
+pub record Reads (s : List ℕ) (spec : Found) (most : ℕ) (new : List ℕ) (r : Stop) : Type 0 where
+  pub found : foundIn s r new ≡ spec
   pub within : r .at ≤ length s
-  pub lines : r .line ≤ ln + n
+  pub lines : r .line ≤ most
   pub long : length new ≡ 1672

@@ -3,7 +3,7 @@ ghost use Prim.Native.Nat.{_+_, _<_, _≤_};
 ghost use lib.ListN.{length, drop};
 ghost use Rattle.text.specs.Text.{part, count};
 ghost use Rattle.rows.specs.Row.{numbersIn};
-ghost use Rattle.lines.specs.Lines.{levelRow, rowFor, put, placesOf, BlockRead};
+ghost use Rattle.lines.specs.Lines.{levelRow, rowFor, put, placesOf, blockFrom, Reads};
 use rows::Fault;
 use rows::Numbers;
 
@@ -109,7 +109,7 @@ pub fn read_block(
     store: &mut [u32],
 ) -> Stop
     requires { ⌜ (at ≤ length (now s)) × (line + n < 4096) × (base + n ≤ placesOf kind) × (length (now store) ≡ 1672) ⌝ }
-    ensures { λ r. ⌜ BlockRead (now (s .entry)) at line kind base n (now (store .entry)) (now (store .exit)) r ⌝ }
+    ensures { λ r. ⌜ Reads (now (s .entry)) (blockFrom kind base n 0 (drop at (now (s .entry))) line (now (store .entry))) (line + n) (now (store .exit)) r ⌝ }
 {
     let mut p = at;
     let mut j: usize = 0;
