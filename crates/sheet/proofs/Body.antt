@@ -1,0 +1,197 @@
+-- Laws of the lines after the H line: one block or job more, and where the reading stops.
+-- Assumes nothing.
+use mathlib.Core.Path.{_≡_, refl, ap, sym, _∙_}
+use mathlib.Core.List.{List}
+use Prim.Native.Nat.{ℕ, suc, _+_, _*_, _-_, _≤_, _<_}
+use native.Mathlib.Omega.{arith}
+use lib.ListN.{length, drop}
+use Rattle.text.specs.Text.{until, part}
+use Rattle.text.specs.Line.{LineAt}
+use Rattle.text.specs.declared.Line.{Line}
+use Rattle.text.proofs.Scanned.{line-part, line-ahead, line-missing, line-beyond}
+use Rattle.rows.specs.Row.{nameFault}
+use Rattle.rows.specs.declared.Fault.{Fault}
+use Rattle.rows.specs.declared.Fault.the-variants.{Sound, Shape}
+use Rattle.lines.specs.Lines.{Found, blockFrom, foundIn, Reads}
+use Rattle.lines.specs.declared.Kind.the-variants.{Level, Change, Work}
+use Rattle.lines.specs.declared.Stop.{Stop}
+use Rattle.lines.proofs.Lines.{Other, after-other}
+use Rattle.sheet.specs.Body.{onward, changesFrom, jobsFrom, bodyFrom}
+
+-- ---- going on or stopping
+
+module _ (f g : Found) (go : List ℕ → ℕ → List ℕ → Found) (e : f ≡ g) where
+  pub onward-stop : Other (f .fault) → f ≡ onward g go
+  onward-stop o = rw (← e) (sym (after-other (f .fault) f _ o))
+
+  pub onward-on : f .fault ≡ Sound → onward g go ≡ go (f .rest) (f .line) (f .store)
+  onward-on q = rw (← e, q) refl
+
+-- ---- the S lines, those of p levels read
+
+pub record Changes (s : List ℕ) (at line l : ℕ) (old store : List ℕ) (a q p : ℕ) : Type 0 where
+  pub most : p ≤ l
+  pub few : l ≤ 8
+  pub early : line ≤ 11
+  pub within : a ≤ length s
+  pub lines : q ≤ line + p * 8
+  pub long : length store ≡ 1672
+  pub rest : changesFrom l l 0 (drop at s) line old ≡ changesFrom l (l - p) p (drop a s) q store
+
+pub changes-none : (s : List ℕ) (at line l : ℕ) (old : List ℕ) → l ≤ 8 → line ≤ 11 → at ≤ length s → length old ≡ 1672 → Changes s at line l old old at line 0
+changes-none s at line l old h n k m =
+    let z : l - 0 ≡ l = omega arith in
+    record { most = omega arith; few = h; early = n; within = k; lines = omega arith; long = m; rest = rw z refl }
+
+module _ {s : List ℕ} {at line l : ℕ} {old store : List ℕ} {a q p : ℕ} (g : Changes s at line l old store a q p) where
+  pub changes-all : l ≤ p → Reads s (changesFrom l l 0 (drop at s) line old) (line + l * 8) store (record { fault = Sound; line = q; at = a })
+  unfolding changesFrom
+  changes-all h =
+      let z : l - p ≡ 0 = omega arith in
+      record { found = sym (rw z at (g .rest)); within = g .within; lines = omega (arith, g .lines, g .most); long = g .long }
+
+  module _ (h : p < l) (new : List ℕ) (b : Stop) (r : Reads s (blockFrom (Change p) (p * 8) l 0 (drop a s) q store) (q + l) new b) where
+    left : l - p ≡ suc (l - (p + 1))
+    left = omega arith
+
+    pub changes-stop : Other (b .fault) → Reads s (changesFrom l l 0 (drop at s) line old) (line + l * 8) new b
+    unfolding changesFrom
+    changes-stop o =
+        record {
+          found = onward-stop _ _ (changesFrom l (l - (p + 1)) (p + 1)) (r .found) o ∙ sym (rw left at (g .rest));
+          within = r .within;
+          lines = omega (arith, r .lines, g .lines, g .few);
+          long = r .long;
+        }
+
+    pub changes-on : b .fault ≡ Sound → Changes s at line l old new (b .at) (b .line) (p + 1)
+    unfolding changesFrom
+    changes-on f =
+        record {
+          most = omega arith;
+          few = g .few;
+          early = g .early;
+          within = r .within;
+          lines = omega (arith, r .lines, g .lines, g .few);
+          long = r .long;
+          rest = rw left at (g .rest) ∙ onward-on _ _ (changesFrom l (l - (p + 1)) (p + 1)) (r .found) f;
+        }
+
+-- ---- the jobs' lines, those of i jobs read
+
+pub record Jobs (s : List ℕ) (at line l m : ℕ) (old store : List ℕ) (a q i : ℕ) : Type 0 where
+  pub most : i ≤ m
+  pub few : l ≤ 8
+  pub early : line ≤ 75
+  pub within : a ≤ length s
+  pub lines : q ≤ line + i * 9
+  pub long : length store ≡ 1672
+  pub rest : jobsFrom l m 0 (drop at s) line old ≡ jobsFrom l (m - i) i (drop a s) q store
+
+pub jobs-none : (s : List ℕ) (at line l m : ℕ) (old : List ℕ) → l ≤ 8 → line ≤ 75 → at ≤ length s → length old ≡ 1672 → Jobs s at line l m old old at line 0
+jobs-none s at line l m old h n k o =
+    let z : m - 0 ≡ m = omega arith in
+    record { most = omega arith; few = h; early = n; within = k; lines = omega arith; long = o; rest = rw z refl }
+
+module _ {s : List ℕ} {at line l m : ℕ} {old store : List ℕ} {a q i : ℕ} (g : Jobs s at line l m old store a q i) where
+  pub jobs-all : m ≤ i → Reads s (jobsFrom l m 0 (drop at s) line old) (line + m * 9) store (record { fault = Sound; line = q; at = a })
+  unfolding jobsFrom
+  jobs-all h =
+      let z : m - i ≡ 0 = omega arith in
+      record { found = sym (rw z at (g .rest)); within = g .within; lines = omega (arith, g .lines, g .most); long = g .long }
+
+  module _ (h : i < m) (r : Line) (z : LineAt s a r) where
+    remaining : m - i ≡ suc (m - (i + 1))
+    remaining = omega arith
+
+    pub jobs-missing : r .end ≡ length s → Reads s (jobsFrom l m 0 (drop at s) line old) (line + m * 9) store (record { fault = Shape; line = q; at = a })
+    unfolding jobsFrom
+    jobs-missing e =
+        record {
+          found = sym (g .rest ∙ rw (remaining, line-missing z (omega arith) (g .within)) refl);
+          within = g .within;
+          lines = omega (arith, g .lines);
+          long = g .long;
+        }
+
+    module _ (n : r .end ≡ length s → ⊥) (f : Fault) (e : f ≡ nameFault (part a (r .end) s)) where
+      inside : r .end < length s
+      inside = omega (arith, z .within, n)
+
+      same : nameFault (until 10 (drop a s)) ≡ f
+      same = ap nameFault (sym (line-part z)) ∙ sym e
+
+      pub jobs-name : Other f → Reads s (jobsFrom l m 0 (drop at s) line old) (line + m * 9) store (record { fault = f; line = q; at = a })
+      unfolding jobsFrom
+      jobs-name o =
+          record {
+            found = sym (g .rest ∙ rw (remaining, line-ahead z inside, same) (after-other f _ _ o));
+            within = g .within;
+            lines = omega (arith, g .lines);
+            long = g .long;
+          }
+
+      module _ (sound : f ≡ Sound) (new : List ℕ) (b : Stop) (w : Reads s (blockFrom Work (i * 8) l 0 (drop (r .end + 1) s) (q + 1) store) (q + 1 + l) new b) where
+        next : jobsFrom l m 0 (drop at s) line old ≡ onward (blockFrom Work (i * 8) l 0 (drop (r .end + 1) s) (q + 1) store) (jobsFrom l (m - (i + 1)) (i + 1))
+        unfolding jobsFrom
+        next = g .rest ∙ rw (remaining, line-ahead z inside, same, sound, line-beyond z) refl
+
+        pub jobs-stop : Other (b .fault) → Reads s (jobsFrom l m 0 (drop at s) line old) (line + m * 9) new b
+        jobs-stop o =
+            record {
+              found = onward-stop _ _ (jobsFrom l (m - (i + 1)) (i + 1)) (w .found) o ∙ sym next;
+              within = w .within;
+              lines = omega (arith, w .lines, g .lines, g .few);
+              long = w .long;
+            }
+
+        pub jobs-on : b .fault ≡ Sound → Jobs s at line l m old new (b .at) (b .line) (i + 1)
+        jobs-on c =
+            record {
+              most = omega arith;
+              few = g .few;
+              early = g .early;
+              within = w .within;
+              lines = omega (arith, w .lines, g .lines, g .few);
+              long = w .long;
+              rest = next ∙ onward-on _ _ (jobsFrom l (m - (i + 1)) (i + 1)) (w .found) c;
+            }
+
+-- ---- all of them, one after the other
+
+module _ (s : List ℕ) (at m l resistance : ℕ) (old : List ℕ) (few : l ≤ 8) (jobs : m ≤ 64)
+    {one : List ℕ} {a : Stop} (u : Reads s (blockFrom (Level resistance) 0 l 0 (drop at s) 3 old) (3 + l) one a) where
+  pub body-levels : Other (a .fault) → Reads s (bodyFrom m l resistance (drop at s) 3 old) 651 one a
+  unfolding bodyFrom
+  body-levels o =
+      record {
+        found = onward-stop _ _ (jobsFrom l m 0) (onward-stop _ _ (changesFrom l l 0) (u .found) o) o;
+        within = u .within;
+        lines = omega (arith, u .lines);
+        long = u .long;
+      }
+
+  module _ (sound : a .fault ≡ Sound) {two : List ℕ} {b : Stop} (v : Reads s (changesFrom l l 0 (drop (a .at) s) (a .line) one) (a .line + l * 8) two b) where
+    chained : foundIn s b two ≡ onward (blockFrom (Level resistance) 0 l 0 (drop at s) 3 old) (changesFrom l l 0)
+    chained = v .found ∙ sym (onward-on _ _ (changesFrom l l 0) (u .found) sound)
+
+    pub body-changes : Other (b .fault) → Reads s (bodyFrom m l resistance (drop at s) 3 old) 651 two b
+    unfolding bodyFrom
+    body-changes o =
+        record {
+          found = onward-stop _ _ (jobsFrom l m 0) chained o;
+          within = v .within;
+          lines = omega (arith, u .lines, v .lines);
+          long = v .long;
+        }
+
+    pub body-jobs : b .fault ≡ Sound → {three : List ℕ} {c : Stop} → Reads s (jobsFrom l m 0 (drop (b .at) s) (b .line) two) (b .line + m * 9) three c →
+        Reads s (bodyFrom m l resistance (drop at s) 3 old) 651 three c
+    unfolding bodyFrom
+    body-jobs q w =
+        record {
+          found = w .found ∙ sym (onward-on _ _ (jobsFrom l m 0) chained q);
+          within = w .within;
+          lines = omega (arith, u .lines, v .lines, w .lines);
+          long = w .long;
+        }
