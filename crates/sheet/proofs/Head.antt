@@ -6,9 +6,10 @@ use mathlib.Core.List.{List, []}
 use Prim.Native.Nat.{ℕ, zero, suc, _+_, _-_, _≤_, _<_}
 use native.Mathlib.Decide.{decLt}
 use native.Mathlib.Omega.{arith}
+use lib.Dec.{eqb, ltb}
 use lib.ListN.{length, getD, drop, replicate}
 use borrow.Author.Tests.{lt-ltb, le-ltb, eq-eqb, ne-eqb}
-use Rattle.text.specs.Text.{until, beyond, part}
+use Rattle.text.specs.Text.{until, beyond, ahead, part}
 use Rattle.text.specs.Line.{LineAt}
 use Rattle.text.specs.declared.Line.{Line as Scan}
 use Rattle.text.proofs.Scanned.{line-part, line-ahead, line-missing, line-beyond}
@@ -20,6 +21,8 @@ use Rattle.rows.proofs.Row.{opens-beyond}
 use Rattle.rows.proofs.Within.{Held, faulty, malformed, shapeless, numbers-held}
 use Rattle.lines.specs.Lines.{after, Found}
 use Rattle.lines.proofs.Lines.{Other, after-other}
+use Rattle.sheet.specs.declared.Reading.{Reading}
+use Rattle.sheet.specs.declared.Refusal.{Refusal}
 use Rattle.sheet.specs.declared.Refusal.the-variants.{Nothing, TooLong, Line, Form as FormAt, Range as RangeAt, Hot, Trailing}
 use Rattle.sheet.specs.Body.{bodyFrom}
 use Rattle.sheet.specs.Reading.{refusalOf, readAs, refusedAs, headLos, headHis, versionRow, headRow, figuresFrom, headFrom, sheetOf}
@@ -180,3 +183,47 @@ module _ (s : List ℕ) (short : length s ≤ 20480) (r : Scan) (z : LineAt s 0 
     pub sheet-on : row .fault ≡ Sound → headFrom (drop (r .end + 1) s) ≡ sheetOf s
     unfolding sheetOf
     sheet-on f = rw (le-ltb 20480 (length s) short, line-ahead z version-inside, version-same, f, line-beyond z) refl
+
+-- ---- counts: at most 64 jobs and 8 levels, and none of either where the sheet is refused
+
+pub record Counts (r : Reading) : Type 0 where
+  pub jobs : r .jobs ≤ 64
+  pub levels : r .levels ≤ 8
+
+counts-cond : (b : Bool) (x y : Reading) → Counts x → Counts y → Counts (cond b x y)
+counts-cond true x y h k = h
+counts-cond false x y h k = k
+
+counts-after : (f : Fault) (x y : Reading) → Counts x → (f ≡ Sound → Counts y) → Counts (after f x y)
+counts-after Sound x y h k = k refl
+counts-after Shape x y h k = h
+counts-after (Form n) x y h k = h
+counts-after (Range n) x y h k = h
+
+counts-refused : (r : Refusal) → Counts (refusedAs r)
+counts-refused r = omega arith
+
+counts-figures : (vs t : List ℕ) → getD vs 0 0 ≤ 64 → getD vs 1 0 ≤ 8 → Counts (figuresFrom vs t)
+unfolding figuresFrom
+counts-figures vs t h k =
+    let f = bodyFrom (getD vs 0 0) (getD vs 1 0) (getD vs 7 0) t 3 (replicate 1672 0) in
+    counts-after (f .fault) _ _ (counts-refused _)
+    (λ q. counts-cond (eqb (length (f .rest)) 0) _ _ (record { jobs = h; levels = k }) (counts-refused _))
+
+counts-head : (t : List ℕ) → Counts (headFrom t)
+unfolding headFrom
+counts-head t =
+    let row = headRow (until 10 t) in
+    counts-cond (ahead 10 t) _ _
+    (counts-after (row .fault) _ _ (counts-refused _)
+    (λ q.
+    let h = head-held (until 10 t) q in
+    counts-cond (ltb (getD (row .values) 5 0) (getD (row .values) 6 0)) _ _ (counts-refused _)
+    (counts-figures (row .values) (beyond 10 t) (h .high 0 (omega arith) (omega arith)) (h .high 1 (omega arith) (omega arith)))))
+    (counts-refused _)
+
+pub counts : (t : List ℕ) → Counts (sheetOf t)
+unfolding sheetOf
+counts t =
+    counts-cond (ltb 20480 (length t)) _ _ (counts-refused _)
+    (counts-cond (ahead 10 t) _ _ (counts-after ((versionRow (until 10 t)) .fault) _ _ (counts-refused _) (λ q. counts-head (beyond 10 t))) (counts-refused _))

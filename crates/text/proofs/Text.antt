@@ -164,3 +164,17 @@ scanned-all s from i tabs z h =
     let u = ap (until 10) d ∙ until-none 10 in
     let v = ap (count 9) u ∙ count-none 9 in
     record { end = omega arith; tabs = omega arith; within = omega arith }
+
+-- ---- finding a byte, by places
+
+module _ (b : ℕ) (s : List ℕ) (i to : ℕ) where
+  pub found-end : to ≤ i → i + before b (part i to s) ≡ i
+  found-end h = omega (arith, ap (before b) (part-none i to s h) ∙ before-none b)
+
+  pub found-here : i < to → to ≤ length s → getD s i 0 ≡ b → i + before b (part i to s) ≡ i
+  found-here h k e =
+      omega (arith, ap (before b) (part-here i to s h k) ∙ before-hit b (getD s i 0) (part (i + 1) to s) e)
+
+  pub found-on : i < to → to ≤ length s → (getD s i 0 ≡ b → ⊥) → i + before b (part i to s) ≡ i + 1 + before b (part (i + 1) to s)
+  found-on h k n =
+      omega (arith, ap (before b) (part-here i to s h k) ∙ before-pass b (getD s i 0) (part (i + 1) to s) n)

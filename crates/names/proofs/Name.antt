@@ -1,0 +1,86 @@
+-- Laws of names: one line more is skipped, and where the name ends.
+-- Assumes nothing.
+use mathlib.Core.Path.{_≡_, refl, ap, sym, _∙_}
+use mathlib.Core.List.{List, []}
+use Prim.Native.Nat.{ℕ, zero, suc, _+_, _*_, _-_, _≤_, _<_}
+use native.Mathlib.Nat.{mul-le-mul}
+use native.Mathlib.Omega.{arith}
+use lib.ListN.{length, drop}
+use borrow.Author.Tests.{le-leb, lt-leb}
+use Rattle.text.specs.Text.{before, until, beyond, part}
+use Rattle.text.specs.Line.{LineAt}
+use Rattle.text.specs.declared.Line.{Line}
+use Rattle.text.proofs.Text.{drop-none, until-none, beyond-part}
+use Rattle.text.proofs.Scanned.{line-part, line-beyond}
+use Rattle.sheet.specs.declared.Reading.{Reading}
+use Rattle.sheet.specs.Reading.{sheetOf}
+use Rattle.sheet.proofs.Head.{Counts, counts}
+use Rattle.names.specs.Name.{skip, nameAt, nameOf}
+
+-- Nothing is left behind the last byte.
+beyond-none : (b : ℕ) → beyond b [] ≡ []
+unfolding beyond
+beyond-none b = drop-none [] (suc (before b [])) (omega arith)
+
+skip-none : (n : ℕ) → skip n [] ≡ []
+unfolding skip
+skip-none zero = refl
+skip-none (suc n) = ap (skip n) (beyond-none 10) ∙ skip-none n
+
+-- k lines of the n that come before are skipped, and place p is reached.
+pub record Skipped (s : List ℕ) (n k p : ℕ) : Type 0 where
+  pub most : k ≤ n
+  pub within : p ≤ length s
+  pub rest : skip n s ≡ skip (n - k) (drop p s)
+
+pub skipped-none : (s : List ℕ) (n : ℕ) → Skipped s n 0 0
+skipped-none s n = let z : n - 0 ≡ n = omega arith in record { most = omega arith; within = omega arith; rest = rw z refl }
+
+module _ {s : List ℕ} {n k p : ℕ} (g : Skipped s n k p) (r : Line) (z : LineAt s p r) where
+  module _ (h : k < n) where
+    left : n - k ≡ suc (n - (k + 1))
+    left = omega arith
+
+    pub skipped-on : (r .end ≡ length s → ⊥) → Skipped s n (k + 1) (r .end + 1)
+    unfolding skip
+    skipped-on e =
+        record {
+          most = omega arith;
+          within = omega (arith, z .within, e);
+          rest = rw left at (g .rest) ∙ ap (skip (n - (k + 1))) (line-beyond z);
+        }
+
+    -- No line is left: the name is empty.
+    pub skipped-end : r .end ≡ length s → nameAt n s ≡ []
+    unfolding nameAt skip
+    skipped-end e =
+        let d : drop (r .end + 1) s ≡ [] = drop-none s (r .end + 1) (omega arith) in
+        let q : skip n s ≡ [] = rw left at (g .rest) ∙ ap (skip (n - (k + 1))) (line-beyond z ∙ d) ∙ skip-none (n - (k + 1)) in
+        ap (λ (t : List ℕ). beyond 9 (until 10 t)) q ∙ ap (beyond 9) (until-none 10) ∙ beyond-none 9
+
+  -- The line is reached: what stands behind its first byte 9.
+  pub name-part : n ≤ k → (t : ℕ) → t ≡ p + before 9 (part p (r .end) s) → nameAt n s ≡ part (t + 1) (r .end) s
+  unfolding nameAt skip
+  name-part h t e =
+      let w : n - k ≡ 0 = omega arith in
+      let q : skip n s ≡ drop p s = rw w at (g .rest) in
+      ap (λ (x : List ℕ). beyond 9 (until 10 x)) q ∙ ap (beyond 9) (sym (line-part z)) ∙ beyond-part 9 p (r .end) s ∙ ap (λ (i : ℕ). part (i + 1) (r .end) s) (sym e)
+
+-- ---- a job's name in a sheet that was read
+
+module _ (t : List ℕ) (i : ℕ) (r : Reading) (e : r ≡ sheetOf t) where
+  pub name-none : r .jobs ≤ i → nameOf t i ≡ []
+  unfolding nameOf
+  name-none h = rw (← e, le-leb (r .jobs) i h) refl
+
+  pub name-some : i < r .jobs → nameOf t i ≡ nameAt (2 + r .levels + r .levels * r .levels + i * (r .levels + 1)) t
+  unfolding nameOf
+  name-some h = rw (← e, lt-leb (r .jobs) i h) refl
+
+  -- The number of a J line is small.
+  pub name-small : i < r .jobs → (r .levels ≤ 8) × (r .levels * r .levels ≤ 8 * 8) × (i * (r .levels + 1) ≤ 64 * 9)
+  name-small h =
+      let c : Counts r = rw e (counts t) in
+      let m : i ≤ 64 = omega (arith, c .jobs) in
+      let n : r .levels + 1 ≤ 9 = omega (arith, c .levels) in
+      (c .levels, mul-le-mul (c .levels) (c .levels), mul-le-mul m n)

@@ -1,0 +1,25 @@
+-- Job names (document 01, 'The sheet'): "A job's name is handed back as that part of the sheet itself, never as a copy; a sheet
+-- refused by 1 to 6, or a job number outside 0 to m − 1, gives an empty part."
+-- Assumes nothing.
+use mathlib.Core.Bool.{cond}
+use mathlib.Core.List.{List, []}
+use Prim.Native.Nat.{ℕ, zero, suc, _+_, _*_}
+use lib.Dec.{leb}
+use Rattle.text.specs.Text.{until, beyond}
+use Rattle.sheet.specs.Reading.{sheetOf}
+
+-- The text after its first n lines.
+unfoldable pub skip : ℕ → List ℕ → List ℕ
+skip zero t = t
+skip (suc n) t = skip n (beyond 10 t)
+
+-- What stands behind the first byte 9 of the line that n lines come before: the name, where it is a J line.
+unfoldable pub nameAt : ℕ → List ℕ → List ℕ
+nameAt n t = beyond 9 (until 10 (skip n t))
+
+-- The name of job i, from 0: its J line comes behind the V line, the H line, l lines L, l × l lines S, and a J line and l lines B
+-- for each job before it. A refused sheet has no jobs.
+unfoldable pub nameOf : List ℕ → ℕ → List ℕ
+nameOf t i =
+    let l : ℕ = (sheetOf t) .levels in
+    cond (leb ((sheetOf t) .jobs) i) [] (nameAt (2 + l + l * l + i * (l + 1)) t)
