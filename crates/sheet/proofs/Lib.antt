@@ -1,2 +1,3 @@
 pub mod Body
 pub mod Head
+pub mod Ranges

@@ -1,0 +1,185 @@
+-- The figures of a sheet that is read without refusal lie in the ranges of document 01, 'The sheet'.
+-- Assumes nothing.
+use mathlib.Core.Path.{_≡_, refl, ap}
+use mathlib.Core.Bool.{cond}
+use mathlib.Core.List.{List}
+use Prim.Native.Nat.{ℕ, zero, suc, _+_, _*_, _-_, _≤_, _<_}
+use native.Mathlib.Decide.{decLt}
+use native.Mathlib.Omega.{arith}
+use lib.Dec.{eqb, ltb}
+use lib.ListN.{length, getD, replicate}
+use borrow.Author.Tests.{ltb-true, ltb-false, lt-ltb}
+use Rattle.text.specs.Text.{until, beyond, ahead}
+use Rattle.thermal.specs.Thermal.{steadyState}
+use Rattle.frame.specs.Sheet.{Ranges}
+use Rattle.rows.specs.Row.{nameFault}
+use Rattle.rows.specs.declared.Fault.{Fault}
+use Rattle.rows.specs.declared.Fault.the-variants.{Sound, Shape, Form, Range}
+use Rattle.rows.proofs.Within.{Held, shapeless}
+use Rattle.lines.specs.Lines.{after, Found, blockFrom}
+use Rattle.lines.specs.declared.Kind.the-variants.{Level, Change, Work}
+use Rattle.lines.proofs.Kept.{cond-cases, after-cases, Kept, kept-zeros, block-kept, Fits, fits-zero, level-takes, change-takes, work-takes, Timed, work-stays, work-timed}
+use Rattle.sheet.specs.Body.{onward, changesFrom, jobsFrom, bodyFrom}
+use Rattle.sheet.specs.declared.Reading.{Reading}
+use Rattle.sheet.specs.declared.Refusal.{Refusal}
+use Rattle.sheet.specs.declared.Refusal.the-variants.{Nothing, TooLong, Line, Form as FormAt, Range as RangeAt, Hot, Trailing}
+use Rattle.sheet.specs.Reading.{numberOf, refusalOf, readAs, refusedAs, headLos, headHis, versionRow, headRow, figuresFrom, headFrom, sheetOf}
+use Rattle.sheet.specs.Frame.{figureAt, frameOf}
+use Rattle.sheet.proofs.Head.{head-held}
+
+-- ---- the lines after the H line
+
+-- What was found of m jobs at l levels: every figure in its range, and, where it is sound, every time of a job at least 1.
+record Filled (resistance m l : ℕ) (f : Found) : Type 0 where
+  kept : Kept (Fits resistance) (f .store)
+  timed : f .fault ≡ Sound → (i j : ℕ) → i < m → j < l → Timed (f .store) (i * 8 + j)
+
+module _ (resistance m l : ℕ) (jobs : m ≤ 64) (few : l ≤ 8) where
+  -- A stop before the end.
+  stopped : (f : Found) → Kept (Fits resistance) (f .store) → (f .fault ≡ Sound → ⊥) → Filled resistance m l f
+  stopped f z o = record { kept = z; timed = λ e. absurd (o e) }
+
+  -- The S lines of the next n levels left.
+  changes-kept : (n p : ℕ) (t : List ℕ) (ln : ℕ) (st : List ℕ) → p + n ≤ 8 → Kept (Fits resistance) st → Kept (Fits resistance) ((changesFrom l n p t ln st) .store)
+  unfolding changesFrom
+  changes-kept zero p t ln st h z = z
+  changes-kept (suc n) p t ln st h z =
+      let f = blockFrom (Change p) (p * 8) l 0 t ln st in
+      let y = block-kept (Fits resistance) (Change p) (p * 8) l (omega arith) (λ j line a. change-takes resistance p (omega arith) j line (omega arith)) l 0 t ln st (omega arith) z in
+      after-cases (λ (g : Found). Kept (Fits resistance) (g .store)) (f .fault) f _ (λ o. y) (λ s. changes-kept n (p + 1) (f .rest) (f .line) (f .store) (omega arith) y)
+
+  -- The lines of the next n jobs, with the times of i jobs in the store.
+  jobs-filled : (n i : ℕ) (t : List ℕ) (ln : ℕ) (st : List ℕ) → i + n ≡ m → Kept (Fits resistance) st →
+      ((a j : ℕ) → a < i → j < l → Timed st (a * 8 + j)) → Filled resistance m l (jobsFrom l n i t ln st)
+  unfolding jobsFrom
+  jobs-filled zero i t ln st h z w = record { kept = z; timed = λ e a j x y. w a j (omega arith) y }
+  jobs-filled (suc n) i t ln st h z w =
+      let P = Filled resistance m l in
+      let fault = nameFault (until 10 t) in
+      let f = blockFrom Work (i * 8) l 0 (beyond 10 t) (ln + 1) st in
+      let y = block-kept (Fits resistance) Work (i * 8) l (omega arith) (λ j line a. work-takes resistance (i * 8 + j) j line (omega arith)) l 0 (beyond 10 t) (ln + 1) st (omega arith) z in
+      cond-cases P (ahead 10 t) _ _
+      (λ a. after-cases P fault _ _ (stopped _ z)
+      (λ s. after-cases P (f .fault) f _ (stopped f y)
+      (λ s′. jobs-filled n (i + 1) (f .rest) (f .line) (f .store) (omega arith) y
+      (λ a j x u. elim (decLt a i) [
+        | yes d ↦ work-stays (i * 8) l (omega arith) l 0 (beyond 10 t) (ln + 1) st (omega arith) (z .long) (a * 8 + j) (omega arith) (w a j d u)
+        | no d ↦
+            let q : a ≡ i = omega arith in
+            rw q (work-timed (i * 8) l (omega arith) l 0 (beyond 10 t) (ln + 1) st (omega arith) (z .long) s′ j (omega arith) (omega arith))
+      ]))))
+      (λ a. stopped _ z shapeless)
+
+  -- All of them.
+  body-filled : (t : List ℕ) (ln : ℕ) (st : List ℕ) → Kept (Fits resistance) st → Filled resistance m l (bodyFrom m l resistance t ln st)
+  unfolding bodyFrom
+  body-filled t ln st z =
+      let f = blockFrom (Level resistance) 0 l 0 t ln st in
+      let y = block-kept (Fits resistance) (Level resistance) 0 l (omega arith) (λ j line a. level-takes resistance j line (omega arith)) l 0 t ln st (omega arith) z in
+      let w = after-cases (λ (g : Found). Kept (Fits resistance) (g .store)) (f .fault) f _ (λ o. y) (λ s. changes-kept l 0 (f .rest) (f .line) (f .store) (omega arith) y) in
+      let g = onward f (changesFrom l l 0) in
+      after-cases (Filled resistance m l) (g .fault) g _ (stopped g w)
+      (λ s. jobs-filled m 0 (g .rest) (g .line) (g .store) (omega arith) w (λ a j x u. absurd (omega arith)))
+
+-- ---- a frame's figures
+
+-- What holds of 0 and of the store's own part holds of a figure.
+figure-cases : (P : ℕ → Type 0) (store : List ℕ) (b n k : ℕ) → P 0 → (k < n → P (getD store (b + k) 0)) → P (figureAt store b n k)
+unfolding figureAt
+figure-cases P store b n k z h = cond-cases P (ltb k n) _ _ (λ e. h (ltb-true k n e)) (λ e. z)
+
+-- A figure within the store's own part.
+figure-in : (store : List ℕ) (b n k : ℕ) → k < n → figureAt store b n k ≡ getD store (b + k) 0
+unfolding figureAt
+figure-in store b n k h = rw (lt-ltb k n h) refl
+
+module _ (vs st : List ℕ) (h : Held headLos (headHis (getD vs 1 0 - 1)) 10 0 (replicate 10 0) vs) (cool : getD vs 6 0 ≤ getD vs 5 0)
+    (z : Kept (Fits (getD vs 7 0)) st) (w : (i j : ℕ) → i < getD vs 0 0 → j < getD vs 1 0 → Timed st (i * 8 + j)) where
+  -- A time or an energy, of a change or of a job.
+  cost-most : (b n k : ℕ) → 8 ≤ b → b + n ≤ 1160 → figureAt st b n k ≤ 10000000
+  cost-most b n k l u = figure-cases (λ (v : ℕ). v ≤ 10000000) st b n k (omega arith) (λ a. z .each (b + k) .cost (omega arith) (omega arith))
+
+  -- The figures of a sound H line and of a store that is kept.
+  as-ranges : Ranges (frameOf (readAs Nothing vs st))
+  unfolding frameOf
+  as-ranges =
+      let low : (i : ℕ) → i < 10 → getD headLos i 0 ≤ getD vs i 0 = λ i a. h .low i (omega arith) (omega arith) in
+      let high : (i : ℕ) → i < 10 → getD vs i 0 ≤ getD (headHis (getD vs 1 0 - 1)) i 0 = λ i a. h .high i (omega arith) (omega arith) in
+      record {
+        jobs = record { low = low 0 (omega arith); high = high 0 (omega arith) };
+        levels = record { low = low 1 (omega arith); high = high 1 (omega arith) };
+        startLevel = omega (arith, low 1 (omega arith), high 2 (omega arith));
+        deadline = high 3 (omega arith);
+        energyBudget = high 4 (omega arith);
+        temperatureLimit = high 5 (omega arith);
+        startTemperature = high 6 (omega arith);
+        resistance = high 7 (omega arith);
+        energyStep = record { low = low 8 (omega arith); high = high 8 (omega arith) };
+        temperatureStep = record { low = low 9 (omega arith); high = high 9 (omega arith) };
+        power = λ j. figure-cases (λ (v : ℕ). v ≤ 100000) st 0 8 j (omega arith) (λ a. z .each (0 + j) .power (omega arith));
+        steady = λ j. figure-cases (λ (v : ℕ). steadyState v (getD vs 7 0) ≤ 20000) st 0 8 j (fits-zero (getD vs 7 0) 0 .steady (omega arith)) (λ a. z .each (0 + j) .steady (omega arith));
+        changeTime = λ p j. cost-most 8 64 (p * 8 + j) (omega arith) (omega arith);
+        changeEnergy = λ p j. cost-most 72 64 (p * 8 + j) (omega arith) (omega arith);
+        stay = λ p. (
+          figure-cases (λ (v : ℕ). v ≡ 0) st 8 64 (p * 8 + p) refl (λ a. z .each (8 + (p * 8 + p)) .stay-time p (omega arith) refl),
+          figure-cases (λ (v : ℕ). v ≡ 0) st 72 64 (p * 8 + p) refl (λ a. z .each (72 + (p * 8 + p)) .stay-energy p (omega arith) refl),
+        );
+        jobTime = λ i j. cost-most 136 512 (i * 8 + j) (omega arith) (omega arith);
+        jobTime-least = λ i j x y.
+            let a : i * 8 + j < 512 = omega (arith, high 0 (omega arith), high 1 (omega arith)) in
+            rw (figure-in st 136 512 (i * 8 + j) a) (w i j x y);
+        jobEnergy = λ i j. cost-most 648 512 (i * 8 + j) (omega arith) (omega arith);
+        decay = λ i j. figure-cases (λ (v : ℕ). v ≤ 65536) st 1160 512 (i * 8 + j) (omega arith) (λ a. z .each (1160 + (i * 8 + j)) .decay (omega arith));
+        cool = cool;
+      }
+
+-- ---- a whole sheet
+
+-- A reading keeps the ranges, unless it is refused.
+abbrev Good : Reading → Type 0
+Good r = r .refusal ≡ Nothing → Ranges (frameOf r)
+
+-- A refused reading has a number other than 0.
+refused : (r : Refusal) → (numberOf r ≡ 0 → ⊥) → Good (refusedAs r)
+refused r n e = absurd (n (ap numberOf e))
+
+-- A fault is a refusal.
+fault-refused : (f : Fault) (line : ℕ) → (f ≡ Sound → ⊥) → Good (refusedAs (refusalOf f line))
+fault-refused Sound line o = absurd (o refl)
+fault-refused Shape line o = refused (Line line) (λ e. omega arith)
+fault-refused (Form k) line o = refused (FormAt line k) (λ e. omega arith)
+fault-refused (Range k) line o = refused (RangeAt line k) (λ e. omega arith)
+
+-- From line 3 on.
+figures-good : (vs t : List ℕ) → Held headLos (headHis (getD vs 1 0 - 1)) 10 0 (replicate 10 0) vs → getD vs 6 0 ≤ getD vs 5 0 → Good (figuresFrom vs t)
+unfolding figuresFrom
+figures-good vs t h cool =
+    let resistance = getD vs 7 0 in
+    let f = bodyFrom (getD vs 0 0) (getD vs 1 0) resistance t 3 (replicate 1672 0) in
+    let z = kept-zeros (Fits resistance) (fits-zero resistance) 1672 refl in
+    let g = body-filled resistance (getD vs 0 0) (getD vs 1 0) (h .high 0 (omega arith) (omega arith)) (h .high 1 (omega arith) (omega arith)) t 3 (replicate 1672 0) z in
+    after-cases Good (f .fault) _ _ (fault-refused (f .fault) (f .line))
+    (λ s. cond-cases Good (eqb (length (f .rest)) 0) _ _ (λ a e. as-ranges vs (f .store) h cool (g .kept) (g .timed s)) (λ a. refused (Trailing (f .line)) (λ e. omega arith)))
+
+-- From line 2 on.
+head-good : (t : List ℕ) → Good (headFrom t)
+unfolding headFrom
+head-good t =
+    let row = headRow (until 10 t) in
+    let rest = cond (ltb (getD (row .values) 5 0) (getD (row .values) 6 0)) (refusedAs Hot) (figuresFrom (row .values) (beyond 10 t)) in
+    cond-cases Good (ahead 10 t) (after (row .fault) (refusedAs (refusalOf (row .fault) 2)) rest) (refusedAs (Line 2))
+    (λ a. after-cases Good (row .fault) _ _ (fault-refused (row .fault) 2)
+    (λ s. cond-cases Good (ltb (getD (row .values) 5 0) (getD (row .values) 6 0)) _ _ (λ b. refused Hot (λ e. omega arith))
+    (λ b. figures-good (row .values) (beyond 10 t) (head-held (until 10 t) s) (ltb-false _ _ b))))
+    (λ a. refused (Line 2) (λ e. omega arith))
+
+-- The figures of a sheet that is read without refusal keep the ranges of document 01.
+pub read-ranges : (t : List ℕ) → (sheetOf t) .refusal ≡ Nothing → Ranges (frameOf (sheetOf t))
+unfolding sheetOf
+read-ranges t =
+    let row = versionRow (until 10 t) in
+    let rest = cond (ahead 10 t) (after (row .fault) (refusedAs (refusalOf (row .fault) 1)) (headFrom (beyond 10 t))) (refusedAs (Line 1)) in
+    cond-cases Good (ltb 20480 (length t)) (refusedAs TooLong) rest (λ a. refused TooLong (λ e. omega arith))
+    (λ a. cond-cases Good (ahead 10 t) _ _
+    (λ b. after-cases Good (row .fault) _ _ (fault-refused (row .fault) 1) (λ s. head-good (beyond 10 t)))
+    (λ b. refused (Line 1) (λ e. omega arith)))
