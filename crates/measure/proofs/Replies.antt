@@ -1,0 +1,105 @@
+-- Laws of the measuring call's reply: what each of its tests says, and that a list it measures fits the sheet.
+-- Assumes nothing.
+use mathlib.Core.Path.{_≡_, refl, ap, sym, _∙_}
+use mathlib.Core.List.{List, [], _∷_}
+use Prim.Native.Nat.{ℕ, zero, suc, _+_, _^_, _≤_, _<_}
+use native.Mathlib.Decide.{decLt}
+use native.Mathlib.Omega.{arith}
+use lib.IntN.{ℤ, subℕ}
+use lib.ListN.{length, getD}
+use borrow.Author.Tests.{lt-ltb, le-ltb, eq-eqb, ne-eqb}
+use types.Run.{OneOf, miss}
+use denote.Enum.Declared.{tagOf}
+use Rattle.frame.specs.Sheet.{Sheet, Ranges}
+use Rattle.frame.specs.Run.{State, start, step, exactRun}
+use Rattle.frame.specs.Limits.{margins}
+use Rattle.run.proofs.Small.{Small, small-start, small-step}
+use Rattle.sheet.specs.declared.Reading.{Reading}
+use Rattle.sheet.specs.declared.Refusal.{Refusal}
+use Rattle.sheet.specs.declared.Refusal.the-variants.{Nothing, TooLong, Line, Form, Range, Hot, Trailing}
+use Rattle.sheet.specs.Reading.{sheetOf}
+use Rattle.sheet.specs.Frame.{frameOf}
+use Rattle.sheet.proofs.Refusal.{the-type}
+use Rattle.sheet.proofs.Ranges.{read-ranges}
+use Rattle.measure.specs.declared.Refused.the-variants.{Nothing as NoRefusal, Sheet as OfSheet, Length, Level}
+use Rattle.measure.specs.declared.Measured.{Measured}
+use Rattle.measure.specs.Measure.{firstAbove, refusedAs, measuredAs, accepted, measureOf}
+use Rattle.measure.proofs.Levels.{above-here, above-on}
+
+-- ---- how large the figures of a measured list can be
+
+pub record Under (a : State) : Type 0 where
+  pub time : a.time < 2 ^ 63
+  pub energy : a.energy < 2 ^ 63
+  pub peak : a.peak < 2 ^ 63
+
+run-under : {s : Sheet} → Ranges s → (js : List ℕ) (k : ℕ) (a : State) → Small k a → k + length js ≤ 64 → Under (exactRun s a js)
+run-under r [] k a w h = record { time = omega (arith, w .time); energy = omega (arith, w .energy); peak = omega (arith, w .peak) }
+run-under {s} r (j ∷ js) k a w h = run-under r js (suc k) (step s a j) (small-step r j w) (omega arith)
+
+pub measured-under : {s : Sheet} → Ranges s → (js : List ℕ) → length js ≤ 64 → Under (exactRun s (start s) js)
+measured-under {s} r js h = run-under r js 0 (start s) (small-start r) (omega arith)
+
+-- The reply that holds the margins of a run.
+pub margins-are : (s : Sheet) (js : List ℕ) (a : State) → a ≡ exactRun s (start s) js → (time energy temperature : ℤ) →
+    time ≡ subℕ s.deadline a.time → energy ≡ subℕ s.energyBudget a.energy → temperature ≡ subℕ s.temperatureLimit a.peak →
+    record { refusal = NoRefusal; time = time; energy = energy; temperature = temperature } ≡ measuredAs (margins s js)
+unfolding margins
+margins-are s js a h time energy temperature x y z = rw (x, y, z, h) refl
+
+-- ---- a list with no level of l or more
+
+below-cons : (l j : ℕ) (js : List ℕ) → j < l → ((i : ℕ) → getD js i 0 < l) → (i : ℕ) → getD (j ∷ js) i 0 < l
+below-cons l j js b h zero = b
+below-cons l j js b h (suc i) = h i
+
+below-all : (l : ℕ) (js : List ℕ) → 1 ≤ l → length js ≤ firstAbove l js → (i : ℕ) → getD js i 0 < l
+below-all l [] h q = λ i. omega arith
+below-all l (j ∷ js) h q =
+    elim (decLt j l) [
+      | yes b ↦ below-cons l j js b (below-all l js h (omega (arith, above-on l js j b)))
+      | no b ↦ absurd (omega (arith, above-here l js j (omega arith)))
+    ]
+
+-- ---- the reply
+
+-- A sheet that is refused, as a match leaves it.
+abbrev pub Refuses : Refusal → Type 0
+Refuses f = OneOf (1 ∷ 2 ∷ 3 ∷ 4 ∷ 5 ∷ 6 ∷ []) (tagOf the-type f)
+
+accepted-other : (f : Refusal) (go : Measured) → Refuses f → accepted f go ≡ refusedAs (OfSheet f)
+accepted-other Nothing go h = absurd (miss (1 ∷ 2 ∷ 3 ∷ 4 ∷ 5 ∷ 6 ∷ []) 0 tt h)
+accepted-other TooLong go h = refl
+accepted-other (Line line) go h = refl
+accepted-other (Form line field) go h = refl
+accepted-other (Range line field) go h = refl
+accepted-other Hot go h = refl
+accepted-other (Trailing line) go h = refl
+
+module _ (t js : List ℕ) (r : Reading) (e : r ≡ sheetOf t) where
+  pub measure-refused : Refuses (r .refusal) → refusedAs (OfSheet (r .refusal)) ≡ measureOf t js
+  unfolding measureOf
+  measure-refused h = rw (sym e) (sym (accepted-other (r .refusal) _ h))
+
+  module _ (n : r .refusal ≡ Nothing) where
+    pub measure-length : (length js ≡ r .jobs → ⊥) → refusedAs Length ≡ measureOf t js
+    unfolding measureOf
+    measure-length h = rw (sym e, n, ne-eqb (length js) (r .jobs) h) refl
+
+    module _ (m : length js ≡ r .jobs) (k : ℕ) (q : k ≡ firstAbove (r .levels) js) where
+      pub measure-level : k < length js → refusedAs (Level k) ≡ measureOf t js
+      unfolding measureOf
+      measure-level h = rw (sym e, n, eq-eqb (length js) (r .jobs) m, sym q, lt-ltb k (length js) h) refl
+
+      pub measure-given : length js ≤ k → measuredAs (margins (frameOf r) js) ≡ measureOf t js
+      unfolding measureOf
+      measure-given h = rw (sym e, n, eq-eqb (length js) (r .jobs) m, sym q, le-ltb k (length js) h) refl
+
+      -- What running the list rests on.
+      pub fits-sheet : length js ≤ k → (Ranges (frameOf r)) × (length js ≤ 64) × ((i : ℕ) → getD js i 0 < 8)
+      unfolding frameOf
+      fits-sheet h =
+          let z : Ranges (frameOf r) = rw e (read-ranges t (ap (λ (x : Reading). x .refusal) (sym e) ∙ n)) in
+          (z,
+          omega (arith, z .jobs .high),
+          λ i. omega (arith, below-all (r .levels) js (z .levels .low) (omega arith) i, z .levels .high))
