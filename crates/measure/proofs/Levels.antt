@@ -1,13 +1,13 @@
 -- Laws of a list of levels that is run on a sheet that was read.
 -- Assumes nothing.
 use mathlib.Core.Path.{_≡_, refl, ap, sym, _∙_}
-use mathlib.Core.List.{List, [], _∷_}
+use mathlib.Core.List.{List, _∷_}
 use Prim.Native.Nat.{ℕ, suc, _+_, _*_, _≤_, _<_}
 use native.Mathlib.Numerals.{add-one}
 use native.Mathlib.Omega.{arith}
 use lib.ListN.{length, getD, drop, drop-of-length-le}
 use lib.Seq.{drop-cons}
-use borrow.Author.Tests.{lt-ltb, le-ltb, le-leb, lt-leb}
+use borrow.Author.Tests.{lt-ltb, le-leb, lt-leb}
 use Rattle.thermal.specs.Thermal.{steadyState}
 use Rattle.frame.specs.Sheet.{Sheet, Ranges, steadyOf}
 use Rattle.frame.specs.Run.{State, start, change, job, step, exactRun}

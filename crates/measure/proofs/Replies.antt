@@ -99,7 +99,8 @@ module _ (t js : List ℕ) (r : Reading) (e : r ≡ sheetOf t) where
       pub fits-sheet : length js ≤ k → (Ranges (frameOf r)) × (length js ≤ 64) × ((i : ℕ) → getD js i 0 < 8)
       unfolding frameOf
       fits-sheet h =
-          let z : Ranges (frameOf r) = rw e (read-ranges t (ap (λ (x : Reading). x .refusal) (sym e) ∙ n)) in
-          (z,
-          omega (arith, z .jobs .high),
-          λ i. omega (arith, below-all (r .levels) js (z .levels .low) (omega arith) i, z .levels .high))
+          let z : Ranges (frameOf r) = rw e (read-ranges t (ap (λ (x : Reading). x .refusal) (sym e) ∙ n)) in (
+            z,
+            omega (arith, z .jobs .high),
+            λ i. omega (arith, below-all (r .levels) js (z .levels .low) (omega arith) i, z .levels .high),
+          )

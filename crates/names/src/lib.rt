@@ -1,23 +1,5 @@
 ghost use mathlib.Core.Path.{_≡_};
-ghost use Prim.Native.Nat.{_+_, _≤_};
-ghost use lib.ListN.{length};
-ghost use Rattle.text.specs.Text.{before, part};
 ghost use Rattle.names.specs.Name.{nameAt, nameOf};
-
-// Where the first byte 9 stands from `from` on, or `to`.
-fn find_tab(s: &[u8], from: usize, to: usize) -> usize
-    requires { ⌜ (from ≤ to) × (to ≤ length (now s)) ⌝ }
-    ensures { λ r. ⌜ (r ≡ from + before 9 (part from to (now (s .entry)))) × (r ≤ to) ⌝ }
-{
-    let mut i = from;
-    while i < to {
-        if s[i] == 9 {
-            return i;
-        }
-        i += 1;
-    }
-    i
-}
 
 // The second field of the line that n lines come before, as a part of the text; nothing where there is none.
 pub fn name_at(s: &[u8], n: usize) -> &[u8]
@@ -36,7 +18,7 @@ pub fn name_at(s: &[u8], n: usize) -> &[u8]
     }
     let l = text::scan_line(s, p);
     let e = l.end;
-    let t = find_tab(s, p, e);
+    let t = text::find(s, p, e, 9);
     if t == e {
         return &s[..0];
     }

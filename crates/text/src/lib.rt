@@ -1,7 +1,7 @@
 ghost use mathlib.Core.Path.{_≡_};
 ghost use Prim.Native.Nat.{_+_, _≤_};
 ghost use lib.ListN.{length, drop};
-ghost use Rattle.text.specs.Text.{part};
+ghost use Rattle.text.specs.Text.{before, part};
 ghost use Rattle.text.specs.Line.{LineAt};
 ghost use Rattle.text.specs.Number.{fieldAt, isName};
 
@@ -15,6 +15,21 @@ pub struct Line {
 pub enum Field {
     Number(u64, usize),
     Malformed,
+}
+
+// The first place of byte b from `from` on, or `to` where there is none before it.
+pub fn find(s: &[u8], from: usize, to: usize, b: u8) -> usize
+    requires { ⌜ (from ≤ to) × (to ≤ length (now s)) ⌝ }
+    ensures { λ r. ⌜ (r ≡ from + before b (part from to (now (s .entry)))) × (r ≤ to) ⌝ }
+{
+    let mut i = from;
+    while i < to {
+        if s[i] == b {
+            return i;
+        }
+        i += 1;
+    }
+    i
 }
 
 // The line that starts at `from`.

@@ -1,11 +1,8 @@
-use mathlib.Core.Path.{_≡_, ap, _∙_}
+use mathlib.Core.Path.{_∙_}
 use native.Mathlib.Omega.{arith}
-use lib.IntN.{subℕ}
 use mir.Syntax.{w64}
 use mir.Facts.{toZ-ofZ}
 use borrow.Author.Needs.{needs}
-use Rattle.frame.specs.Run.{State}
-use Rattle.frame.specs.Limits.{margins}
 use Rattle.run.specs.Run.{stateOf}
 use Rattle.sheet.specs.Frame.{frameOf}
 use Rattle.measure.proofs.Replies.{Under, measured-under, margins-are}

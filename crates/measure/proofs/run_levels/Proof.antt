@@ -48,7 +48,7 @@ change-at-requires c κs = omega (arith, c .before .before .before .before .befo
 
 -- src/lib.rt:58:13
 job-at-requires : tie.Need-job-at-requires Inv-loop μ-loop
-job-at-requires c κs = 
+job-at-requires c κs =
     let a = c .before .before .before .before .before .before .before .before .before .before in
     let g = c .before .before .before .before .before .loop .inv in
     let j = getD (a .args .levels .now) (c .before .before .before .before .before .loop .i) 0 in
@@ -65,7 +65,7 @@ taken c =
 
 -- src/lib.rt:59:9
 after-requires : tie.Need-after-requires Inv-loop μ-loop
-after-requires c κs = 
+after-requires c κs =
     let a = c .before .before .before .before .before .before .before .before .before .before .before in
     let g = c .before .before .before .before .before .before .loop .inv in
     small-bounds (a .pre .0) (omega arith) (g .small) (taken c)
@@ -80,7 +80,7 @@ loop-less c = search needs
 
 -- src/lib.rt:54:5
 loop-again : tie.Need-loop-again Inv-loop μ-loop
-loop-again c = 
+loop-again c =
     let a = c .before .before .before .before .before .before .before .before .before .before .before .before in
     going-next _ (a .pre .0) (omega arith) (a .pre .2 (c .before .before .before .before .before .before .before .loop .i)) (c .after .ensures (frameOf (a .args .r)) (taken (c .before))) (c .before .before .before .before .before .before .before .loop .inv)
 

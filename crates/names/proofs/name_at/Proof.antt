@@ -10,7 +10,7 @@ use Rattle.names.proofs.name_at.Statement.{statement}
 use Rattle.names.proofs.name_at.Tie as tie
 use Rattle.names.proofs.name_at.Reads as reads
 use Rattle.names.proofs.name_at.Lts as lts
-use Rattle.names.proofs.find_tab.Reads as find-tab-reads
+use Rattle.text.proofs.find.Reads as find-reads
 use Rattle.text.proofs.scan_line.Reads as scan-line-reads
 
 abbrev Inv-loop : tie.InvT-loop
@@ -56,8 +56,8 @@ scan-line-requires-2 : tie.Need-scan-line-requires-2 Inv-loop μ-loop
 scan-line-requires-2 c κs = c .before .loop .inv .within
 
 -- src/lib.rt:39:9
-find-tab-requires : tie.Need-find-tab-requires Inv-loop μ-loop
-find-tab-requires c κs = let z = c .scan-line2 .ensures in (line-from z, z .within)
+find-requires : tie.Need-find-requires Inv-loop μ-loop
+find-requires c κs = let z = c .scan-line2 .ensures in (line-from z, z .within)
 
 -- src/lib.rt:41:9
 slice-aggregate-result-2 : tie.Need-slice-aggregate-result-2 Inv-loop μ-loop
@@ -67,7 +67,7 @@ slice-aggregate-result-2 c = search needs
 returns-2 : tie.Need-returns-2 Inv-loop μ-loop
 returns-2 c =
     let z = c .before .before .before .scan-line2 .ensures in
-    let t = c .before .before .find-tab .ensures in
+    let t = c .before .before .find .ensures in
     sym (name-part (c .before .before .before .before .before .loop .inv) _ z (search needs) _ (t .0) ∙ part-none _ _ _ (omega (arith, c .before .if2 .taken)))
 
 -- src/lib.rt:43:13
@@ -91,7 +91,7 @@ returns-3 : tie.Need-returns-3 Inv-loop μ-loop
 unfolding part
 returns-3 c =
     let z = c .before .before .before .scan-line2 .ensures in
-    sym (name-part (c .before .before .before .before .before .loop .inv) _ z (search needs) _ (c .before .before .find-tab .ensures .0))
+    sym (name-part (c .before .before .before .before .before .loop .inv) _ z (search needs) _ (c .before .before .find .ensures .0))
 
 pub name-at-spec : {M : Type 1} → statement M
 name-at-spec =
@@ -108,7 +108,7 @@ name-at-spec =
     loop-less
     loop-again
     scan-line-requires-2
-    find-tab-requires
+    find-requires
     slice-aggregate-result-2
     returns-2
     add-a

@@ -2,18 +2,18 @@ use mathlib.Core.Path.{_≡_, refl, sym, _∙_}
 use Prim.Native.Nat.{_+_, _-_, _≤_}
 use lib.ListN.{length}
 use borrow.Author.Needs.{needs}
 use Rattle.text.specs.Text.{before, part}
 use Rattle.text.proofs.Text.{found-end, found-here, found-on}
-use Rattle.names.proofs.find_tab.Statement.{statement}
-use Rattle.names.proofs.find_tab.Tie as tie
-use Rattle.names.proofs.find_tab.Reads as reads
-use Rattle.names.proofs.find_tab.Lts as lts
+use Rattle.text.proofs.find.Statement.{statement}
+use Rattle.text.proofs.find.Tie as tie
+use Rattle.text.proofs.find.Reads as reads
+use Rattle.text.proofs.find.Lts as lts
 
 abbrev Inv-loop : tie.InvT-loop
-Inv-loop s from to i₀ i = (i ≤ to) × (to ≤ length s) × (from + before 9 (part from to s) ≡ i + before 9 (part i to s))
+Inv-loop s from to b i₀ i = (i ≤ to) × (to ≤ length s) × (from + before b (part from to s) ≡ i + before b (part i to s))
 
 abbrev μ-loop : tie.MeasureT-loop
-μ-loop s from to i₀ i = to - i
+μ-loop s from to b i₀ i = to - i
 
 -- src/lib.rt:13:5
 loop-holds : tie.Need-loop-holds Inv-loop μ-loop
@@ -43,8 +43,8 @@ loop-again c = (search needs, search needs, c .before .before .before .loop .inv
 returns-2 : tie.Need-returns-2 Inv-loop μ-loop
 returns-2 c = (sym (c .before .loop .inv .2 ∙ found-end _ _ _ _ (search needs)), search needs)
 
-pub find-tab-spec : {M : Type 1} → statement M
-find-tab-spec =
+pub find-spec : {M : Type 1} → statement M
+find-spec =
     tie.close
     (tie.spec
     Inv-loop
