@@ -94,7 +94,7 @@ fn first_above(levels: &[u8], l: u32) -> usize
     i
 }
 
-// The margins of a list of as many levels as the sheet has jobs, each below l.
+// The margins of a list of at most 64 levels, each below 8, on a sheet in its ranges.
 fn margins_of(r: Reading, levels: &[u8]) -> Measured
     requires { ⌜ (Ranges (frameOf r)) × (length (now levels) ≤ 64) × ((i : ℕ) → getD (now levels) i 0 < 8) ⌝ }
     ensures { λ q. ⌜ q ≡ measuredAs (margins (frameOf r) (now (levels .entry))) ⌝ }
@@ -115,7 +115,7 @@ fn margins_of(r: Reading, levels: &[u8]) -> Measured
 }
 
 // A refused list: "Every figure of a refused reply not named is 0."
-fn turn_down(refusal: Refused) -> Measured
+fn refuse(refusal: Refused) -> Measured
     ensures { λ q. ⌜ q ≡ refusedAs refusal ⌝ }
 {
     Measured {
@@ -133,14 +133,14 @@ pub fn measure(s: &[u8], levels: &[u8]) -> Measured
     let r = sheet::read(s);
     let f = r.refusal;
     let Refusal::Nothing = f else {
-        return turn_down(Refused::Sheet(f));
+        return refuse(Refused::Sheet(f));
     };
     if levels.len() != r.jobs as usize {
-        return turn_down(Refused::Length);
+        return refuse(Refused::Length);
     }
     let k = first_above(levels, r.levels);
     if k < levels.len() {
-        return turn_down(Refused::Level(k));
+        return refuse(Refused::Level(k));
     }
     margins_of(r, levels)
 }

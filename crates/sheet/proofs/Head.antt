@@ -20,6 +20,7 @@ use Rattle.rows.specs.declared.Fault.the-variants.{Sound, Shape, Form, Range}
 use Rattle.rows.proofs.Row.{opens-beyond}
 use Rattle.rows.proofs.Within.{Held, faulty, malformed, shapeless, numbers-held}
 use Rattle.lines.specs.Lines.{after, Found}
+use Rattle.lines.proofs.Kept.{cond-cases, after-cases}
 use Rattle.lines.proofs.Lines.{Other, after-other}
 use Rattle.sheet.specs.declared.Reading.{Reading}
 use Rattle.sheet.specs.declared.Refusal.{Refusal}
@@ -191,14 +192,10 @@ pub record Counts (r : Reading) : Type 0 where
   pub levels : r .levels ≤ 8
 
 counts-cond : (b : Bool) (x y : Reading) → Counts x → Counts y → Counts (cond b x y)
-counts-cond true x y h k = h
-counts-cond false x y h k = k
+counts-cond b x y h k = cond-cases Counts b x y (λ e. h) (λ e. k)
 
 counts-after : (f : Fault) (x y : Reading) → Counts x → (f ≡ Sound → Counts y) → Counts (after f x y)
-counts-after Sound x y h k = k refl
-counts-after Shape x y h k = h
-counts-after (Form n) x y h k = h
-counts-after (Range n) x y h k = h
+counts-after f x y h k = after-cases Counts f x y (λ o. h) k
 
 counts-refused : (r : Refusal) → Counts (refusedAs r)
 counts-refused r = omega arith

@@ -7,7 +7,7 @@ use Rattle.measure.proofs.measure.Reads as reads
 use Rattle.measure.proofs.measure.Lts as lts
 use Rattle.measure.proofs.first_above.Reads as first-above-reads
 use Rattle.measure.proofs.margins_of.Reads as margins-of-reads
-use Rattle.measure.proofs.turn_down.Reads as turn-down-reads
+use Rattle.measure.proofs.refuse.Reads as refuse-reads
 use Rattle.sheet.proofs.read.Reads as read-reads
 
 -- src/lib.rt:133:9
@@ -18,36 +18,36 @@ enum-told : tie.Need-enum-told
 enum-told c = search needs
 
 -- src/lib.rt:136:9
-turn-down-requires : tie.Need-turn-down-requires
-turn-down-requires c κs = search needs
+refuse-requires : tie.Need-refuse-requires
+refuse-requires c κs = search needs
 
 -- src/lib.rt:136:9
 returns : tie.Need-returns
-returns c = c .turn-down .ensures ∙ measure-refused _ _ _ (c .before .before .read .ensures) (c .before .match .keys2)
+returns c = c .refuse .ensures ∙ measure-refused _ _ _ (c .before .before .read .ensures) (c .before .match .keys2)
 
 -- src/lib.rt:138:24
 cast-if1 : tie.Need-cast-if1
 cast-if1 c = search needs
 
 -- src/lib.rt:139:9
-turn-down-requires-2 : tie.Need-turn-down-requires-2
-turn-down-requires-2 c κs = search needs
+refuse-requires-2 : tie.Need-refuse-requires-2
+refuse-requires-2 c κs = search needs
 
 -- src/lib.rt:139:9
 returns-2 : tie.Need-returns-2
-returns-2 c = c .turn-down2 .ensures ∙ measure-length _ _ _ (c .before .before .before .before .before .read .ensures) (c .before .before .before .enum-told .given .1) (search needs)
+returns-2 c = c .refuse2 .ensures ∙ measure-length _ _ _ (c .before .before .before .before .before .read .ensures) (c .before .before .before .enum-told .given .1) (search needs)
 
 -- src/lib.rt:141:9
 first-above-requires : tie.Need-first-above-requires
 first-above-requires c κs = search needs
 
 -- src/lib.rt:143:9
-turn-down-requires-3 : tie.Need-turn-down-requires-3
-turn-down-requires-3 c κs = search needs
+refuse-requires-3 : tie.Need-refuse-requires-3
+refuse-requires-3 c κs = search needs
 
 -- src/lib.rt:143:9
 returns-3 : tie.Need-returns-3
-returns-3 c = c .turn-down3 .ensures ∙ measure-level _ _ _ (c .before .before .before .before .before .before .before .read .ensures) (c .before .before .before .before .before .enum-told .given .1) (search needs) _ (c .before .before .first-above .ensures) (search needs)
+returns-3 c = c .refuse3 .ensures ∙ measure-level _ _ _ (c .before .before .before .before .before .before .before .read .ensures) (c .before .before .before .before .before .enum-told .given .1) (search needs) _ (c .before .before .first-above .ensures) (search needs)
 
 -- src/lib.rt:145:5
 margins-of-requires : tie.Need-margins-of-requires
@@ -63,13 +63,13 @@ measure-spec =
     (tie.spec
     read-requires
     enum-told
-    turn-down-requires
+    refuse-requires
     returns
     cast-if1
-    turn-down-requires-2
+    refuse-requires-2
     returns-2
     first-above-requires
-    turn-down-requires-3
+    refuse-requires-3
     returns-3
     margins-of-requires
     returns-4)
