@@ -31,10 +31,11 @@ use Rattle.measure.proofs.Levels.{above-here, above-on}
 pub record Under (a : State) : Type 0 where
   pub time : a.time < 2 ^ 63
   pub energy : a.energy < 2 ^ 63
+  pub temperature : a.temperature < 2 ^ 63
   pub peak : a.peak < 2 ^ 63
 
 run-under : {s : Sheet} → Ranges s → (js : List ℕ) (k : ℕ) (a : State) → Small k a → k + length js ≤ 64 → Under (exactRun s a js)
-run-under r [] k a w h = record { time = omega (arith, w .time); energy = omega (arith, w .energy); peak = omega (arith, w .peak) }
+run-under r [] k a w h = omega (arith, w .time, w .energy, w .temperature, w .peak)
 run-under {s} r (j ∷ js) k a w h = run-under r js (suc k) (step s a j) (small-step r j w) (omega arith)
 
 pub measured-under : {s : Sheet} → Ranges s → (js : List ℕ) → length js ≤ 64 → Under (exactRun s (start s) js)

@@ -37,15 +37,15 @@ under c =
 
 -- src/lib.rt:106:9
 margin-requires : tie.Need-margin-requires
-margin-requires c κs = (omega (arith, c .before .before .before .before .before .pre .0 .deadline), under c .time)
+margin-requires c κs = omega (arith, under c)
 
 -- src/lib.rt:107:9
 margin-requires-2 : tie.Need-margin-requires-2
-margin-requires-2 c κs = (omega (arith, c .before .before .before .before .before .before .pre .0 .energyBudget), under (c .before) .energy)
+margin-requires-2 c κs = omega (arith, under (c .before))
 
 -- src/lib.rt:108:9
 margin-requires-3 : tie.Need-margin-requires-3
-margin-requires-3 c κs = (omega (arith, c .before .before .before .before .before .before .before .pre .0 .temperatureLimit), under (c .before .before) .peak)
+margin-requires-3 c κs = omega (arith, under (c .before .before))
 
 -- src/lib.rt:98:1
 returns : tie.Need-returns
