@@ -9,3 +9,4 @@ pub mod Demand3
 pub mod Words
 pub mod Table
 pub mod Margins
+pub mod Tabulate

@@ -1,10 +1,17 @@
 -- The table of 32-bit words (document 01, 'The rounded run and the table'): its size, the place of a word, what it holds.
 -- Assumes nothing.
-use Prim.Native.Nat.{ℕ, _+_, _*_, _-_, _/_, _%_}
+use mathlib.Core.List.{List, [], _∷_, _++_}
+use Prim.Native.Nat.{ℕ, zero, suc, _+_, _*_, _-_, _/_, _%_}
+use lib.ListN.{drop}
 use Rattle.thermal.specs.Rounding.{ceilDiv}
 use Rattle.frame.specs.Sheet.{Sheet}
 use Rattle.frame.specs.Run.{State, fresh}
 use Rattle.frame.specs.Plan.{least}
+
+-- f k, f (k + 1), ..: n numbers.
+unfoldable pub tabulate : (ℕ → ℕ) → ℕ → ℕ → List ℕ
+tabulate f k zero = []
+tabulate f k (suc n) = f k ∷ tabulate f (suc k) n
 
 -- "A = W/g rounded up, plus 1"
 unfoldable pub energyCells : Sheet → ℕ
@@ -51,3 +58,7 @@ temperatureCellAt s k = k % temperatureCells s
 -- The word at place k.
 unfoldable pub wordAt : Sheet → ℕ → ℕ
 wordAt s k = word s (doneAt s k) (levelAt s k) (energyCellAt s k) (temperatureCellAt s k)
+
+-- A lent table once it is filled: "the need's words to the table, nothing beyond".
+unfoldable pub filled : Sheet → List ℕ → List ℕ
+filled s table = tabulate (wordAt s) 0 (need s) ++ drop (need s) table

@@ -37,18 +37,25 @@ fn larger(a: u64, b: u64) -> u64
 }
 
 impl Run {
+    // A run from which time counts anew and no job end is seen yet.
+    pub fn fresh(done: u32, level: u32, energy: u64, temperature: u64) -> Run
+        ensures { λ r. ⌜ stateOf r ≡ fresh done level energy temperature ⌝ }
+    {
+        Run {
+            done: done,
+            level: level,
+            time: 0,
+            energy: energy,
+            temperature: temperature,
+            peak: 0,
+        }
+    }
+
     // The run before its first job: "time 0, energy 0, the start temperature and the start level", and no job end yet.
     pub fn start(level: u32, temperature: u64) -> Run
         ensures { λ r. ⌜ stateOf r ≡ fresh 0 level 0 temperature ⌝ }
     {
-        Run {
-            done: 0,
-            level: level,
-            time: 0,
-            energy: 0,
-            temperature: temperature,
-            peak: 0,
-        }
+        Run::fresh(0, level, 0, temperature)
     }
 
     // The run after the next job at `level`, on every sheet whose figures these are: "A job at a level adds the job's time and

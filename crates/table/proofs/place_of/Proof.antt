@@ -1,0 +1,98 @@
+use mathlib.Core.Path.{_≡_}
+use Prim.Native.Nat.{ℕ, _+_, _*_, _<_}
+use native.Mathlib.Nat.{le-mul-of-pos-right}
+use native.Mathlib.Omega.{arith}
+use Rattle.table.specs.Table.{placeBy}
+use borrow.Author.Needs.{needs}
+use Rattle.table.proofs.place_of.Statement.{statement}
+use Rattle.table.proofs.place_of.Tie as tie
+use Rattle.table.proofs.place_of.Reads as reads
+use Rattle.table.proofs.place_of.Lts as lts
+use Rattle.table.proofs.ceil_div.Reads as ceil-div-reads
+
+-- src/lib.rt:42:13
+ceil-div-requires : tie.Need-ceil-div-requires
+ceil-div-requires c κs = search needs
+
+-- src/lib.rt:43:13
+ceil-div-requires-2 : tie.Need-ceil-div-requires-2
+ceil-div-requires-2 c κs = search needs
+
+-- src/lib.rt:44:15
+cast-row : tie.Need-cast-row
+cast-row c = search needs
+
+-- src/lib.rt:44:33
+cast-row-2 : tie.Need-cast-row-2
+cast-row-2 c = search needs
+
+-- The place from the inside out, by what the two calls gave: no part of it is larger than the whole.
+abbrev start : tie.After-ceil-div2 → tie.Start
+start c = c .before .before
+
+abbrev job-level : tie.After-ceil-div2 → ℕ
+job-level c = start c .args .b .done * start c .args .f .levels + start c .args .b .level
+
+abbrev energy-row : tie.After-ceil-div2 → ℕ
+energy-row c = job-level c * start c .args .f .«energy_cells» + c .before .ceil-div .result
+
+is-place : (c : tie.After-ceil-div2) → energy-row c * start c .args .f .«temperature_cells» + c .ceil-div2 .result ≡ placeBy (start c .args .f) (start c .args .b)
+unfolding placeBy
+is-place c = cc (c .before .ceil-div .ensures, c .ceil-div2 .ensures)
+
+parts : (c : tie.After-ceil-div2) →
+    (job-level c < 4194304) × (energy-row c < 4194304) × (energy-row c * start c .args .f .«temperature_cells» + c .ceil-div2 .result < 4194304)
+parts c =
+    let s = start c .pre in
+    let w : energy-row c * start c .args .f .«temperature_cells» + c .ceil-div2 .result < 4194304 = omega (arith, is-place c, s .1) in
+    let o : energy-row c < 4194304 = omega (arith, w, le-mul-of-pos-right (energy-row c) (s .0 .temperature-cells)) in
+    (omega (arith, o, le-mul-of-pos-right (job-level c) (s .0 .energy-cells)), o, w)
+
+-- src/lib.rt:44:15
+mul-row : tie.Need-mul-row
+mul-row c = omega (arith, parts (c .before .before))
+
+-- src/lib.rt:44:53
+cast-row-3 : tie.Need-cast-row-3
+cast-row-3 c = search needs
+
+-- src/lib.rt:44:15
+add-row : tie.Need-add-row
+add-row c = omega (arith, parts (c .before .before .before))
+
+-- src/lib.rt:45:6
+mul-result : tie.Need-mul-result
+mul-result c = omega (arith, parts (c .before .before .before .before))
+
+-- src/lib.rt:45:6
+add-result : tie.Need-add-result
+add-result c = omega (arith, parts (c .before .before .before .before))
+
+-- src/lib.rt:45:5
+mul-result-2 : tie.Need-mul-result-2
+mul-result-2 c = omega (arith, parts (c .before .before .before .before .before))
+
+-- src/lib.rt:45:5
+add-result-2 : tie.Need-add-result-2
+add-result-2 c = omega (arith, parts (c .before .before .before .before .before))
+
+-- src/lib.rt:38:1
+returns : tie.Need-returns
+returns c = is-place (c .before .before .before .before .before)
+
+pub place-of-spec : {M : Type 1} → statement M
+place-of-spec =
+    tie.close
+    (tie.spec
+    ceil-div-requires
+    ceil-div-requires-2
+    cast-row
+    cast-row-2
+    mul-row
+    cast-row-3
+    add-row
+    mul-result
+    add-result
+    mul-result-2
+    add-result-2
+    returns)

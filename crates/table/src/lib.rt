@@ -1,0 +1,155 @@
+ghost use mathlib.Core.Path.{_≡_};
+ghost use Prim.Native.Nat.{_+_, _≤_, _<_, _^_};
+ghost use lib.ListN.{length};
+ghost use Rattle.thermal.specs.Rounding.{ceilDiv};
+ghost use Rattle.frame.specs.Sheet.{Sheet};
+ghost use Rattle.frame.specs.Plan.{leastOf, via};
+ghost use Rattle.frame.specs.Table.{energyCells, temperatureCells, need, place, filled};
+ghost use Rattle.run.specs.Run.{stateOf};
+ghost use Rattle.step.specs.Store.{Stored};
+ghost use Rattle.table.specs.Table.{sheetBy, Axes, AtCell, placeBy, restIn, restBy, Steps, FilledFrom};
+use run::Run;
+
+// The figures of a sheet's H line, and the cells of the table's two axes.
+pub struct Frame {
+    pub jobs: u32,
+    pub levels: u32,
+    pub start_level: u32,
+    pub deadline: u32,
+    pub energy_budget: u64,
+    pub temperature_limit: u64,
+    pub start_temperature: u32,
+    pub resistance: u32,
+    pub energy_step: u64,
+    pub temperature_step: u64,
+    pub energy_cells: usize,
+    pub temperature_cells: usize,
+}
+
+// x / n, rounded up.
+pub fn ceil_div(x: u64, n: u64) -> u64
+    requires { ⌜ (x < 2 ^ 63) × (1 ≤ n) × (n ≤ 2000000000) ⌝ }
+    ensures { λ r. ⌜ r ≡ ceilDiv x n ⌝ }
+{
+    (x + (n - 1)) / n
+}
+
+// The place of the cell to which a run is raised.
+fn place_of(f: Frame, b: Run) -> usize
+    requires { ⌜ (Steps f b) × (placeBy f b < 4194304) ⌝ }
+    ensures { λ r. ⌜ r ≡ placeBy f b ⌝ }
+{
+    let a = ceil_div(b.energy, f.energy_step) as usize;
+    let t = ceil_div(b.temperature, f.temperature_step) as usize;
+    let row = b.done as usize * f.levels as usize + b.level as usize;
+    (row * f.energy_cells + a) * f.temperature_cells + t
+}
+
+// What the table says of the time after a job that ends in `b`.
+pub fn rest_of(f: Frame, table: &[u32], b: Run) -> u64
+    requires { ⌜ (b .done < f .jobs → (Steps f b) × (placeBy f b < 4194304) × (placeBy f b < length (now table))) ⌝ }
+    ensures { λ r. ⌜ r ≡ restIn f (now (table .entry)) b ⌝ }
+{
+    if b.done < f.jobs {
+        let k = place_of(f, b);
+        table[k] as u64
+    } else {
+        0
+    }
+}
+
+// The time from a cell on where its next job takes level j, "4,294,967,295 where no way exists".
+pub fn way(f: Frame, figures: &[u32; 1672], steady: &[u32; 8], table: &[u32], a: Run, j: u32) -> u64
+    ghost { Sheet }
+    requires { λ s. ⌜ sheetBy f (now figures) ≡ s ⌝ }
+    requires { λ s. ⌜ (Axes s f) × (Stored s (now figures) (now steady)) × (need s ≤ length (now table)) ⌝ }
+    requires { λ s. ⌜ (AtCell s (stateOf a)) × (j < s .levels) ⌝ }
+    ensures { λ s r. ⌜ r ≡ via s (restBy s (now (table .entry))) (stateOf a) j ⌝ }
+{
+    let b = step::next_job(a, figures, steady, j);
+    if f.energy_budget < b.energy {
+        return 4294967295;
+    }
+    if f.temperature_limit < b.peak {
+        return 4294967295;
+    }
+    let t = b.time + rest_of(f, table, b);
+    if t < 4294967295 { t } else { 4294967295 }
+}
+
+// The least time from a cell on.
+fn least_way(f: Frame, figures: &[u32; 1672], steady: &[u32; 8], table: &[u32], a: Run) -> u32
+    ghost { Sheet }
+    requires { λ s. ⌜ sheetBy f (now figures) ≡ s ⌝ }
+    requires { λ s. ⌜ (Axes s f) × (Stored s (now figures) (now steady)) × (need s ≤ length (now table)) ⌝ }
+    requires { λ s. ⌜ AtCell s (stateOf a) ⌝ }
+    ensures { λ s r. ⌜ r ≡ leastOf (s .levels) (via s (restBy s (now (table .entry))) (stateOf a)) ⌝ }
+{
+    let l = f.levels;
+    let mut least: u64 = 4294967295;
+    let mut j: u32 = 0;
+    while j < l {
+        let t = way(f, figures, steady, table, a, j);
+        if t < least {
+            least = t;
+        }
+        j += 1;
+    }
+    least as u32
+}
+
+// Fills the words of i jobs done, level p before and energy cell a, which begin at `base`, from the last to the first.
+fn fill_row(
+    f: Frame,
+    figures: &[u32; 1672],
+    steady: &[u32; 8],
+    table: &mut [u32],
+    i: u32,
+    p: u32,
+    a: usize,
+    base: usize,
+)
+    ghost { Sheet }
+    requires { λ s. ⌜ sheetBy f (now figures) ≡ s ⌝ }
+    requires { λ s. ⌜ (Axes s f) × (Stored s (now figures) (now steady)) × (need s ≤ length (now table)) ⌝ }
+    requires { λ s. ⌜ (i < s .jobs) × (p < s .levels) × (a < energyCells s) × (base ≡ place s i p a 0) ⌝ }
+    requires { λ s. ⌜ FilledFrom s (base + temperatureCells s) (now table) (now table) ⌝ }
+    ensures { λ s r. ⌜ FilledFrom s base (now (table .entry)) (now (table .exit)) ⌝ }
+{
+    let energy = a as u64 * f.energy_step;
+    let step = f.temperature_step;
+    let mut b = f.temperature_cells;
+    while 0 < b {
+        b -= 1;
+        let c = Run::fresh(i, p, energy, b as u64 * step);
+        let w = least_way(f, figures, steady, table, c);
+        table[base + b] = w;
+    }
+}
+
+// Fills the table, from its last row to its first, so that a row finds the words of one more job done.
+pub fn fill(f: Frame, figures: &[u32; 1672], steady: &[u32; 8], table: &mut [u32])
+    ghost { Sheet }
+    requires { λ s. ⌜ sheetBy f (now figures) ≡ s ⌝ }
+    requires { λ s. ⌜ (Axes s f) × (Stored s (now figures) (now steady)) × (need s ≤ length (now table)) ⌝ }
+    ensures { λ s r. ⌜ now (table .exit) ≡ filled s (now (table .entry)) ⌝ }
+{
+    let l = f.levels as usize;
+    let cells = f.energy_cells;
+    let width = f.temperature_cells;
+    let mut x = f.jobs as usize * l * cells;
+    while 0 < x {
+        x -= 1;
+        let y = x / cells;
+        fill_row(
+            f,
+            figures,
+            steady,
+            table,
+            (y / l) as u32,
+            (y % l) as u32,
+            x % cells,
+            x * width,
+        );
+    }
+}
