@@ -10,3 +10,4 @@ pub mod Words
 pub mod Table
 pub mod Margins
 pub mod Tabulate
+pub mod Walk

@@ -64,11 +64,11 @@ cond-le false x y l h = absurd (omega arith)
 module _ (s : Sheet) where
   -- ---- a job's cost
 
-  cost-le : (b : State) (r : ℕ) → b.energy ≤ s.energyBudget → b.peak ≤ s.temperatureLimit → cost s b r ≤ b.time + r
+  pub cost-le : (b : State) (r : ℕ) → b.energy ≤ s.energyBudget → b.peak ≤ s.temperatureLimit → cost s b r ≤ b.time + r
   unfolding cost
   cost-le b r u h = rw (le-leb b.energy s.energyBudget u, le-leb b.peak s.temperatureLimit h) (omega arith)
 
-  cost-lt : (b : State) (r x : ℕ) → x < infeasible → cost s b r ≤ x →
+  pub cost-lt : (b : State) (r x : ℕ) → x < infeasible → cost s b r ≤ x →
       (b.energy ≤ s.energyBudget) × (b.peak ≤ s.temperatureLimit) × (b.time + r ≤ x)
   unfolding cost
   cost-lt b r x l h =

@@ -16,9 +16,9 @@ use Rattle.frame.specs.Plan.{leastOf, via}
 use Rattle.frame.specs.Table.{energyCells, temperatureCells, need, place, cell, word, wordAt, tabulate, filled}
 use Rattle.frame.proofs.Table.{place-lt, word-at}
 use Rattle.frame.proofs.Tabulate.{length-tabulate, getD-tabulate}
-use Rattle.table.specs.Table.{Axes, AtCell, restBy, FilledFrom}
+use Rattle.table.specs.Table.{Axes, AtCell, restBy, FilledFrom, Holds}
 use Rattle.table.specs.declared.Frame.{Frame}
-use Rattle.table.proofs.Lookup.{Holds, ways-least}
+use Rattle.table.proofs.Lookup.{ways-least}
 
 -- ---- places
 

@@ -21,7 +21,7 @@ use Rattle.frame.proofs.Table.{place-lt, energy-cell, temperature-cell, least-w
 use Rattle.run.specs.Run.{stateOf}
 use Rattle.run.specs.declared.Run.{Run}
 use Rattle.table.specs.declared.Frame.{Frame}
-use Rattle.table.specs.Table.{Axes, AtCell, placeFor, restBy, placeBy, restIn, Steps}
+use Rattle.table.specs.Table.{Axes, AtCell, placeFor, restBy, placeBy, restIn, Steps, Holds}
 
 -- ---- by the axes that the code has
 
@@ -96,10 +96,6 @@ module _ (s : Sheet) where
       ]
 
 -- ---- a table that holds words
-
--- The table holds the words of i jobs done.
-pub record Holds (s : Sheet) (t : List ℕ) (i : ℕ) : Type 0 where
-  pub words : i < s.jobs → (p x y : ℕ) → p < s.levels → x < energyCells s → y < temperatureCells s → getD t (place s i p x y) 0 ≡ word s i p x y
 
 module _ {s : Sheet} (ok : Ranges s) {t : List ℕ} where
   pub rest-least : (b : State) → Holds s t b.done → b.level < s.levels → b.energy ≤ s.energyBudget → b.temperature ≤ s.temperatureLimit →

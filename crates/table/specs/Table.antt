@@ -10,7 +10,7 @@ use lib.ListN.{length, getD}
 use Rattle.thermal.specs.Rounding.{ceilDiv}
 use Rattle.frame.specs.Sheet.{Sheet, Ranges}
 use Rattle.frame.specs.Run.{State, fresh, raised}
-use Rattle.frame.specs.Table.{energyCells, temperatureCells, need, place, wordAt}
+use Rattle.frame.specs.Table.{energyCells, temperatureCells, need, place, word, wordAt}
 use Rattle.run.specs.declared.Run.{Run}
 use Rattle.sheet.specs.declared.Reading.{Reading}
 use Rattle.sheet.specs.declared.Refusal.the-variants.{Nothing}
@@ -92,3 +92,8 @@ pub record FilledFrom (s : Sheet) (k : ℕ) (old new : List ℕ) : Type 0 where
   pub long : length new ≡ length old
   pub within : (q : ℕ) → k ≤ q → q < need s → getD new q 0 ≡ wordAt s q
   pub beyond : (q : ℕ) → need s ≤ q → getD new q 0 ≡ getD old q 0
+
+-- The table holds the words of i jobs done.
+pub record Holds (s : Sheet) (table : List ℕ) (i : ℕ) : Type 0 where
+  pub words : i < s.jobs → (p x y : ℕ) → p < s.levels → x < energyCells s → y < temperatureCells s →
+      getD table (place s i p x y) 0 ≡ word s i p x y

@@ -1,0 +1,145 @@
+use mathlib.Core.Path.{_≡_, sym, ap, _∙_}
+use mathlib.Core.List.{List, _++_}
+use Prim.Native.Nat.{ℕ, _+_, _-_}
+use native.Mathlib.Omega.{arith}
+use lib.ListN.{drop}
+use denote.Ref.{now}
+use Rattle.frame.specs.Run.{State, step}
+use Rattle.frame.specs.Plan.{plan}
+use Rattle.frame.proofs.Walk.{Goes}
+use Rattle.run.specs.Run.{stateOf}
+use Rattle.step.proofs.Store.{rests}
+use Rattle.table.specs.Table.{sheetBy}
+use Rattle.table.proofs.Lookup.{next-cell, next-peak}
+use Rattle.walk.proofs.Steps.{cellOf, raises, raised-cell, Going, starts-at, starts-plan, starts-way, going-start, going-level, going-next, going-end}
+use borrow.Author.Needs.{needs}
+use Rattle.walk.proofs.walk.Statement.{statement}
+use Rattle.walk.proofs.walk.Tie as tie
+use Rattle.walk.proofs.walk.Reads as reads
+use Rattle.walk.proofs.walk.Lts as lts
+use Rattle.step.proofs.next_job.Reads as next-job-reads
+use Rattle.walk.proofs.choose.Reads as choose-reads
+use Rattle.walk.proofs.raise_run.Reads as raise-run-reads
+
+abbrev Inv-loop : tie.InvT-loop
+Inv-loop f figures steady table part₀ n a₀ i₀ part a i = Going (sheetBy f figures) (stateOf a₀) n part₀ part i (stateOf a)
+
+abbrev μ-loop : tie.MeasureT-loop
+μ-loop f figures steady table part₀ n a₀ i₀ part a i = n - i
+
+-- src/lib.rt:66:14
+sub-n : tie.Need-sub-n Inv-loop μ-loop
+sub-n c = let a = c .before .before .before .before .pre in omega (arith, a .1 .1 .0 .done, a .0 .0 .jobs)
+
+-- src/lib.rt:66:13
+cast-n : tie.Need-cast-n Inv-loop μ-loop
+cast-n c = let a = c .before .before .before .before .pre in omega (arith, a .0 .0 .jobs, a .0 .0 .ranges .jobs .high)
+
+-- src/lib.rt:67:9
+raise-run-requires : tie.Need-raise-run-requires Inv-loop μ-loop
+raise-run-requires c κs = let a = c .before .before .before .before .pre in raises (a .0 .0) _ (a .1 .1 .0 .energy) (a .1 .1 .0 .temperature)
+
+-- The walk starts at the cell to which the start is raised.
+at-start : (c : tie.After-raise-run Inv-loop μ-loop) → let a = c .before .before .before .before .before .args in
+    stateOf (c .raise-run .result) ≡ cellOf (sheetBy (a .f) (now (a .figures))) (stateOf (a .start))
+at-start c = raised-cell (c .before .before .before .before .before .pre .0 .0) (c .before .before .before .before .before .args .start) _ (c .raise-run .ensures)
+
+-- src/lib.rt:69:5
+loop-holds : tie.Need-loop-holds Inv-loop μ-loop
+loop-holds c =
+    let a = c .before .before .before .before .before .pre in
+    let w = a .1 .1 .0 in
+    let e = at-start c in
+    let x = a .0 .0 in
+    going-start (x .ranges) _ _ _ (omega (arith, ap (λ (z : State). z.done) e, w .done, x .jobs)) (starts-at (x .ranges) w e) (starts-way (x .ranges) _ w e (omega (arith, x .jobs)))
+
+-- src/lib.rt:70:13
+choose-requires : tie.Need-choose-requires Inv-loop μ-loop
+choose-requires c κs = let a = c .before .before .before .before .before .before .before .pre in (a .0, c .before .loop .inv .at (c .loop-test .taken))
+
+-- The level taken is the plan's.
+taken : (c : tie.After-choose Inv-loop μ-loop) → let a = c .before .before .before .before .before .before .before .before .args in
+    Goes (sheetBy (a .f) (now (a .figures))) (a .f .jobs - a .start .done - (c .before .before .loop .i + 1)) (stateOf (c .before .before .loop .a)) (c .choose .result)
+taken c =
+    let a = c .before .before .before .before .before .before .before .before in
+    going-level (a .pre .0 .0 .ranges) (c .before .before .loop .inv) (c .before .loop-test .taken) (now (a .args .table)) (a .pre .1 .0 _) _ (c .choose .ensures)
+
+-- src/lib.rt:71:19
+cast-part : tie.Need-cast-part Inv-loop μ-loop
+cast-part c = omega (arith, taken c .level, c .before .before .before .before .before .before .before .before .pre .0 .0 .ranges .levels .high)
+
+-- src/lib.rt:71:9
+slice-write-part : tie.Need-slice-write-part Inv-loop μ-loop
+slice-write-part c = omega (arith, c .before .loop-test .taken, c .before .before .loop .inv .long, c .before .before .before .before .before .before .before .before .pre .1 .1 .1, c .before .before .before .before .before .before .before .before .pre .0 .0 .jobs)
+
+-- src/lib.rt:72:26
+next-job-requires : tie.Need-next-job-requires Inv-loop μ-loop
+next-job-requires c κs =
+    let a = c .before .before .before .before .before .before .before .before .pre in
+    let ok = a .0 .0 .ranges in
+    let at = c .before .before .loop .inv .at (c .before .loop-test .taken) in
+    rests (a .0 .1) _ _ ok (omega (arith, at .done, ok .jobs .high)) (omega (arith, at .level, ok .levels .high)) (omega (arith, taken c .level, ok .levels .high)) (omega (arith, ap (λ (z : State). z.time) (at .anew))) (omega (arith, at .energy)) (at .temperature)
+
+-- The run after the job, by the definitions.
+stepped : (c : tie.After-next-job Inv-loop μ-loop) → let a = c .before .before .before .before .before .before .before .before .before .args in
+    stateOf (c .next-job .result) ≡ step (sheetBy (a .f) (now (a .figures))) (stateOf (c .before .before .before .loop .a)) (c .before .choose .result)
+stepped c = c .next-job .ensures _ (c .before .before .before .before .before .before .before .before .before .pre .0 .1)
+
+-- src/lib.rt:72:9
+raise-run-requires-2 : tie.Need-raise-run-requires-2 Inv-loop μ-loop
+raise-run-requires-2 c κs =
+    let a = c .before .before .before .before .before .before .before .before .before .pre in
+    let l = c .before .before .before .loop in
+    let w = taken (c .before) in
+    let s = sheetBy (c .before .before .before .before .before .before .before .before .before .args .f) (now (c .before .before .before .before .before .before .before .before .before .args .figures)) in
+    let x = stepped c ∙ sym (next-cell s (c .before .choose .result) (l .inv .at (c .before .before .loop-test .taken))) in
+    raises (a .0 .0) (c .next-job .result) (omega (arith, ap (λ (z : State). z.energy) x, w .energy)) (omega (arith, ap (λ (z : State). z.temperature) x, next-peak s (stateOf (l .a)) (c .before .choose .result), w .peak))
+
+-- src/lib.rt:73:9
+add-i : tie.Need-add-i Inv-loop μ-loop
+add-i c = omega (arith, c .before .before .before .loop-test .taken, c .before .before .before .before .before .before .before .before .before .before .pre .0 .0 .jobs, c .before .before .before .before .before .before .before .before .before .before .pre .0 .0 .ranges .jobs .high)
+
+-- src/lib.rt:69:5
+loop-less : tie.Need-loop-less Inv-loop μ-loop
+loop-less c = omega (arith, c .before .before .before .loop-test .taken)
+
+-- src/lib.rt:69:5
+loop-again : tie.Need-loop-again Inv-loop μ-loop
+loop-again c =
+    let a = c .before .before .before .before .before .before .before .before .before .before in
+    going-next (a .pre .0 .0 .ranges) (c .before .before .before .before .loop .inv) (c .before .before .before .loop-test .taken) (now (a .args .table)) (a .pre .1 .0 _) _ (c .before .before .choose .ensures) (omega (arith, a .pre .1 .1 .1, a .pre .0 .0 .jobs)) _ _ (stepped (c .before)) (raised-cell (a .pre .0 .0) (c .before .next-job .result) _ (c .raise-run2 .ensures))
+
+-- src/lib.rt:51:1
+same-length : tie.Need-same-length Inv-loop μ-loop
+same-length c = c .before .loop .inv .long
+
+-- src/lib.rt:51:1
+returns : tie.Need-returns Inv-loop μ-loop
+returns c =
+    let a = c .before .before .before .before .before .before .before in
+    let x = a .pre .0 .0 in
+    let m = a .args .f .jobs - a .args .start .done in
+    going-end (x .ranges) (c .loop-test .left) (c .before .loop .inv)
+    ∙ ap (λ (js : List ℕ). js ++ drop m (now (a .args .part))) (starts-plan (x .ranges) _ m (at-start (c .before .before)))
+    ∙ ap (λ (k : ℕ). plan (sheetBy (a .args .f) (now (a .args .figures))) (k - a .args .start .done) (stateOf (a .args .start)) ++ drop (k - a .args .start .done) (now (a .args .part))) (x .jobs)
+
+pub walk-spec : {M : Type 1} → statement M
+walk-spec =
+    tie.close
+    (tie.spec
+    Inv-loop
+    μ-loop
+    sub-n
+    cast-n
+    raise-run-requires
+    loop-holds
+    choose-requires
+    cast-part
+    slice-write-part
+    next-job-requires
+    raise-run-requires-2
+    add-i
+    loop-less
+    loop-again
+    same-length
+    returns)
