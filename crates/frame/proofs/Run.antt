@@ -57,6 +57,11 @@ module _ (s : Sheet) where
   unfolding step change job
   step-peak a j = refl
 
+  pub meets-peak : (r : State → State) (d : ℕ) (js : List ℕ) (a : State) → a.peak ≤ s.temperatureLimit → Meets s r (limitsBy s d) a js →
+      (run s r a js) .peak ≤ s.temperatureLimit
+  meets-peak r d [] a h w = h
+  meets-peak r d (j ∷ js) a h w = meets-peak r d js _ (w .0 .temperature) (w .1)
+
   module _ (r : State → State) (f : (a : State) → (r a) .peak ≡ a.peak) (k : Limits) where
     -- Where the peak so far breaks no limit, `Within` tests this job's end.
     each-end : (js : List ℕ) (a : State) → ((x : ℕ) → AtMost x k.temperature → AtMost (max a.peak x) k.temperature) →

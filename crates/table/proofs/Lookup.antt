@@ -125,7 +125,27 @@ module _ {s : Sheet} (ok : Ranges s) {t : List ℕ} where
         let n : s.jobs - a.done ≡ suc (s.jobs - suc a.done) = omega arith in
         rw n (least-same s.levels _ _ way-least)
 
--- ---- the code of a way
+-- ---- the code of a look-up
+
+-- A run within the limits that has a job to do is raised to a cell of the table.
+pub looks : {s : Sheet} {f : Frame} → Axes s f → (b : Run) → b .level < s.levels → b .energy ≤ s.energyBudget → b .temperature ≤ s.temperatureLimit →
+    b .done < f .jobs → (Steps f b) × (placeBy f b < need s)
+unfolding need placeFor energyCells temperatureCells
+looks {s} {f} x b l u v d =
+    let ok = x .ranges in (
+      record {
+        energy = omega (arith, u, ok .energyBudget);
+        temperature = omega (arith, v, ok .temperatureLimit);
+        energy-step = omega (arith, x .energy-step, ok .energyStep);
+        energy-step-most = omega (arith, x .energy-step, ok .energyStep);
+        temperature-step = omega (arith, x .temperature-step, ok .temperatureStep);
+        temperature-step-most = omega (arith, x .temperature-step, ok .temperatureStep);
+        energy-cells = omega (arith, x .energy-cells);
+        temperature-cells = omega (arith, x .temperature-cells);
+      },
+      rw (place-by x b)
+          (place-lt s (b .done) (b .level) _ _ l (energy-cell s ok (b .energy) u) (temperature-cell s ok (b .temperature) v) s.jobs (omega (arith, x .jobs))),
+    )
 
 module _ (f : Frame) (t : List ℕ) (b : Run) where
   pub rest-word : b .done < f .jobs → restIn f t b ≡ getD t (placeBy f b) 0
@@ -188,21 +208,5 @@ module _ {s : Sheet} {f : Frame} (x : Axes s f) {a : State} (c : AtCell s a) {j 
           x .temperature-limit,
         )
 
-    -- The cell to which the run is raised is one of the table's.
     pub way-looks : b .done < f .jobs → (Steps f b) × (placeBy f b < need s)
-    unfolding need placeFor energyCells temperatureCells
-    way-looks d =
-        let ok = x .ranges in (
-          record {
-            energy = omega (arith, x .energy-budget, ok .energyBudget);
-            temperature = omega (arith, way-cool, ok .temperatureLimit);
-            energy-step = omega (arith, x .energy-step, ok .energyStep);
-            energy-step-most = omega (arith, x .energy-step, ok .energyStep);
-            temperature-step = omega (arith, x .temperature-step, ok .temperatureStep);
-            temperature-step-most = omega (arith, x .temperature-step, ok .temperatureStep);
-            energy-cells = omega (arith, x .energy-cells);
-            temperature-cells = omega (arith, x .temperature-cells);
-          },
-          rw (place-by x b)
-              (place-lt s (b .done) (b .level) _ _ (rw way-level l) (energy-cell s ok (b .energy) (omega (arith, x .energy-budget))) (temperature-cell s ok (b .temperature) way-cool) s.jobs (omega (arith, x .jobs))),
-        )
+    way-looks d = looks x b (rw way-level l) (omega (arith, x .energy-budget)) way-cool d

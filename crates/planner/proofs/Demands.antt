@@ -1,0 +1,184 @@
+-- The three demands in words follow from the equations for the reply and the part.
+-- Assumes nothing.
+use mathlib.Core.Path.{_≡_, refl, sym, ap, _∙_}
+use mathlib.Core.List.{List, _++_}
+use Prim.Native.Nat.{ℕ, _≤_, _<_}
+use native.Mathlib.Omega.{arith}
+use native.Mathlib.Decide.{decLt}
+use borrow.Author.Tests.{lt-ltb, le-ltb}
+use lib.ListN.{length, take, drop}
+use lib.Seq.{take-at}
+use Rattle.frame.specs.Sheet.{Sheet, Ranges}
+use Rattle.frame.specs.Run.{start}
+use Rattle.frame.specs.Limits.{tightened}
+use Rattle.frame.specs.Demands as frame
+use Rattle.frame.specs.Demands.{Outcome, planned, noPlan, Figures, figures}
+use Rattle.frame.specs.Plan.{frameOutcome}
+use Rattle.frame.specs.Table.{need}
+use Rattle.frame.proofs.Demand3.{frame-demand2, frame-demand3}
+use Rattle.sheet.specs.declared.Refusal.{Refusal}
+use Rattle.sheet.specs.declared.Refusal.the-variants.{Nothing, TooLong, Line, Form, Range, Hot, Trailing}
+use Rattle.sheet.specs.Reading.{numberOf, lineOf, fieldOf, sheetOf}
+use Rattle.sheet.specs.Frame.{frameOf}
+use Rattle.sheet.proofs.Ranges.{read-ranges}
+use Rattle.planner.specs.declared.Reply.{Reply}
+use Rattle.planner.specs.Answer.{Answer, refused, found, answerFor, accepted, answerOf, Answers}
+use Rattle.planner.specs.Demands.{Enough, planIn, Fixed, Demand3, Demands}
+
+module _ {s : Sheet} {words bytes : ℕ} {part : List ℕ} {r : Reply} where
+  -- ---- refused by 7, 8 or 9: nothing is said of a plan
+
+  silent : Fixed s words bytes part r → 7 ≤ r .refusal → r .refusal ≤ 9 → Demand3 s words bytes part r
+  silent f l h =
+      record {
+        answer = f;
+        levels = λ e. absurd (omega arith);
+        meets = λ e. absurd (omega arith);
+        figures = λ e. absurd (omega arith);
+        no-slower = λ e. absurd (omega arith);
+        no-plan = λ e. absurd (omega arith);
+      }
+
+  on-seven : 4194304 < need s → r .refusal ≡ 7 → Demand3 s words bytes part r
+  on-seven h e =
+      silent
+      (record {
+        seven = ((λ q. h), (λ q. e));
+        eight = ((λ q. absurd (omega arith)), (λ q. absurd (omega (arith, q .0))));
+        nine = ((λ q. absurd (omega arith)), (λ q. absurd (omega (arith, q .0))));
+        ten = ((λ q. absurd (omega arith)), (λ q. absurd (omega (arith, q .0 .size))));
+        plan = ((λ q. absurd (omega arith)), (λ q. absurd (omega (arith, q .0 .size))));
+        best = λ q. absurd (omega arith);
+      })
+      (omega arith) (omega arith)
+
+  on-eight : need s ≤ 4194304 → words < need s → r .refusal ≡ 8 → Demand3 s words bytes part r
+  on-eight g h e =
+      silent
+      (record {
+        seven = ((λ q. absurd (omega arith)), (λ q. absurd (omega arith)));
+        eight = ((λ q. (g, h)), (λ q. e));
+        nine = ((λ q. absurd (omega arith)), (λ q. absurd (omega (arith, q .1))));
+        ten = ((λ q. absurd (omega arith)), (λ q. absurd (omega (arith, q .0 .table))));
+        plan = ((λ q. absurd (omega arith)), (λ q. absurd (omega (arith, q .0 .table))));
+        best = λ q. absurd (omega arith);
+      })
+      (omega arith) (omega arith)
+
+  on-nine : need s ≤ 4194304 → need s ≤ words → bytes < s.jobs → r .refusal ≡ 9 → Demand3 s words bytes part r
+  on-nine f g h e =
+      silent
+      (record {
+        seven = ((λ q. absurd (omega arith)), (λ q. absurd (omega arith)));
+        eight = ((λ q. absurd (omega arith)), (λ q. absurd (omega (arith, q .1))));
+        nine = ((λ q. (f, g, h)), (λ q. e));
+        ten = ((λ q. absurd (omega arith)), (λ q. absurd (omega (arith, q .0 .part))));
+        plan = ((λ q. absurd (omega arith)), (λ q. absurd (omega (arith, q .0 .part))));
+        best = λ q. absurd (omega arith);
+      })
+      (omega arith) (omega arith)
+
+  -- ---- looked: a plan, or none
+
+  module _ (w : Enough s words bytes) where
+    on-plan : (js : List ℕ) → frame.Best s s.jobs (start s) js → frame.Sound s (tightened s) s.jobs (start s) js →
+        planIn s part ≡ js → r .refusal ≡ 0 → record { time = r .time; energy = r .energy; temperature = r .temperature } ≡ figures s (start s) js →
+        Demand3 s words bytes part r
+    unfolding figures
+    on-plan js b d p e k =
+        record {
+          answer =
+              record {
+                seven = ((λ q. absurd (omega arith)), (λ q. absurd (omega (arith, w .size))));
+                eight = ((λ q. absurd (omega arith)), (λ q. absurd (omega (arith, w .table, q .1))));
+                nine = ((λ q. absurd (omega arith)), (λ q. absurd (omega (arith, w .part, q .2))));
+                ten = ((λ q. absurd (omega arith)), (λ q. absurd (q .1 js (b .keeps))));
+                plan = ((λ q. (w, (js, b .keeps))), (λ q. e));
+                best = λ q. rw p b;
+              };
+          levels = λ q. rw p (d .levels);
+          meets = λ q. rw p (d .meets);
+          figures = λ q. rw p k;
+          no-slower = λ q xs t. omega (arith, ap (λ (z : Figures). z .time) k, d .no-slower xs t);
+          no-plan = λ q. absurd (omega arith);
+        }
+
+    on-none : ((js : List ℕ) → ¬ frame.Keeps s s.deadline s.jobs (start s) js) → ((js : List ℕ) → ¬ frame.Tight s (tightened s) s.jobs (start s) js) →
+        r .refusal ≡ 10 → Demand3 s words bytes part r
+    on-none b d e =
+        record {
+          answer =
+              record {
+                seven = ((λ q. absurd (omega arith)), (λ q. absurd (omega (arith, w .size))));
+                eight = ((λ q. absurd (omega arith)), (λ q. absurd (omega (arith, w .table, q .1))));
+                nine = ((λ q. absurd (omega arith)), (λ q. absurd (omega (arith, w .part, q .2))));
+                ten = ((λ q. (w, b)), (λ q. e));
+                plan = ((λ q. absurd (omega arith)), (λ q. absurd (b (q .1 .0) (q .1 .1))));
+                best = λ q. absurd (omega arith);
+              };
+          levels = λ q. absurd (omega arith);
+          meets = λ q. absurd (omega arith);
+          figures = λ q. absurd (omega arith);
+          no-slower = λ q. absurd (omega arith);
+          no-plan = λ q. d;
+        }
+
+-- ---- the answer's own cases
+
+on-found : (s : Sheet) (o : Outcome) (n : ℕ) (words words' bytes bytes' : List ℕ) (r : Reply) → Enough s n (length bytes) →
+    frame.Demand2 s s.jobs (start s) o → frame.Demand3 s (tightened s) s.jobs (start s) o → Answers (found s o) words words' bytes bytes' r →
+    Demand3 s n (length bytes) bytes' r
+on-found s (planned js) n words words' bytes bytes' r w b d a =
+    on-plan w js b d (ap (take s.jobs) (a .part) ∙ take-at js (drop s.jobs bytes) s.jobs (b .keeps .levels .size))
+    (ap (λ (q : Reply). q .refusal) (a .reply))
+    (ap (λ (q : Reply). record { time = q .time; energy = q .energy; temperature = q .temperature }) (a .reply))
+on-found s noPlan n words words' bytes bytes' r w b d a = on-none w b d (ap (λ (q : Reply). q .refusal) (a .reply))
+
+on-passed : (s : Sheet) → Ranges s → (n : ℕ) (words words' bytes bytes' : List ℕ) (r : Reply) →
+    Answers (answerFor s n (length bytes)) words words' bytes bytes' r → Demand3 s n (length bytes) bytes' r
+unfolding answerFor
+on-passed s ok n words words' bytes bytes' r a =
+    elim (decLt 4194304 (need s)) [
+      | yes h ↦
+          let b : Answers (refused 7 0 0) words words' bytes bytes' r = rw (lt-ltb 4194304 (need s) h) at a in
+          on-seven h (ap (λ (q : Reply). q .refusal) (b .reply))
+      | no h ↦
+          elim (decLt n (need s)) [
+            | yes k ↦
+                let b : Answers (refused 8 0 0) words words' bytes bytes' r = rw (le-ltb 4194304 (need s) (omega arith), lt-ltb n (need s) k) at a in
+                on-eight (omega arith) k (ap (λ (q : Reply). q .refusal) (b .reply))
+            | no k ↦
+                elim (decLt (length bytes) s.jobs) [
+                  | yes l ↦
+                      let b : Answers (refused 9 0 0) words words' bytes bytes' r = rw (le-ltb 4194304 (need s) (omega arith), le-ltb n (need s) (omega arith), lt-ltb (length bytes) s.jobs l) at a in
+                      on-nine (omega arith) (omega arith) l (ap (λ (q : Reply). q .refusal) (b .reply))
+                  | no l ↦
+                      let b : Answers (found s (frameOutcome s)) words words' bytes bytes' r = rw (le-ltb 4194304 (need s) (omega arith), le-ltb n (need s) (omega arith), le-ltb (length bytes) s.jobs (omega arith)) at a in
+                      on-found s (frameOutcome s) n words words' bytes bytes' r (omega arith) (frame-demand2 s ok) (frame-demand3 s ok) b
+                ]
+          ]
+    ]
+
+-- ---- every sheet
+
+accepted-refused : (f : Refusal) (go : Answer) → ¬ (f ≡ Nothing) → accepted f go ≡ refused (numberOf f) (lineOf f) (fieldOf f)
+accepted-refused Nothing go h = absurd (h refl)
+accepted-refused TooLong go h = refl
+accepted-refused (Line line) go h = refl
+accepted-refused (Form line field) go h = refl
+accepted-refused (Range line field) go h = refl
+accepted-refused Hot go h = refl
+accepted-refused (Trailing line) go h = refl
+
+pub demands-hold : (sheet words words' bytes bytes' : List ℕ) (r : Reply) →
+    Answers (answerOf sheet (length words) (length bytes)) words words' bytes bytes' r → Demands sheet (length words) (length bytes) bytes' r
+unfolding answerOf
+demands-hold sheet words words' bytes bytes' r a =
+    record {
+      fails = λ h.
+          let b : Answers (refused (numberOf ((sheetOf sheet) .refusal)) (lineOf ((sheetOf sheet) .refusal)) (fieldOf ((sheetOf sheet) .refusal))) words words' bytes bytes' r = rw (accepted-refused ((sheetOf sheet) .refusal) _ h) at a in
+          b .reply;
+      passes = λ e.
+          on-passed (frameOf (sheetOf sheet)) (read-ranges sheet e) (length words) words words' bytes bytes' r
+          (rw (ap (λ (f : Refusal). accepted f (answerFor (frameOf (sheetOf sheet)) (length words) (length bytes))) e) at a);
+    }

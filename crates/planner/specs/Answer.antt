@@ -1,0 +1,119 @@
+-- The planner's answer to any bytes, with any table and any part lent (document 01, 'What is refused'): which refusal, or the
+-- plan, the reply that says so, and what the table and the part hold afterwards.
+-- Assumes nothing.
+use mathlib.Core.Path.{_≡_}
+use mathlib.Core.Bool.{Bool, true, false, cond}
+use mathlib.Core.List.{List, _++_}
+use Prim.Native.Nat.{ℕ, _+_}
+use lib.Dec.{ltb}
+use lib.ListN.{drop}
+use Rattle.thermal.specs.Rounding.{ceilDiv}
+use Rattle.frame.specs.Sheet.{Sheet, Between}
+use Rattle.frame.specs.Run.{State, start, exactRun}
+use Rattle.frame.specs.Demands.{Outcome, planned, noPlan, Figures, figures}
+use Rattle.frame.specs.Plan.{frameOutcome}
+use Rattle.frame.specs.Table.{need, filled}
+use Rattle.sheet.specs.declared.Reading.{Reading}
+use Rattle.sheet.specs.declared.Refusal.{Refusal}
+use Rattle.sheet.specs.declared.Refusal.the-variants.{Nothing, TooLong, Line, Form, Range, Hot, Trailing}
+use Rattle.sheet.specs.Reading.{numberOf, lineOf, fieldOf, sheetOf}
+use Rattle.sheet.specs.Frame.{frameOf}
+use Rattle.table.specs.declared.Frame.{Frame}
+use Rattle.planner.specs.declared.Reply.{Reply}
+
+-- A refusal of 1 to 9 by its number, line and field, before the table is touched; or what is found in the filled table.
+pub data Answer : Type 0 where
+  refused : ℕ → ℕ → ℕ → Answer
+  found : Sheet → Outcome → Answer
+
+-- "Then 6, 7, 8, 9, 10": 7 for a "need above 4,194,304 words", 8 for a "table shorter than the need", 9 for a "part under m
+-- bytes", each with "0, 0".
+unfoldable pub answerFor : Sheet → ℕ → ℕ → Answer
+answerFor s words bytes =
+    cond (ltb 4194304 (need s)) (refused 7 0 0)
+    (cond (ltb words (need s)) (refused 8 0 0)
+    (cond (ltb bytes s.jobs) (refused 9 0 0) (found s (frameOutcome s))))
+
+-- What follows the reading of a sheet: its refusal of 1 to 6, and else what comes next.
+abbrev pub accepted : Refusal → Answer → Answer
+accepted Nothing go = go
+accepted TooLong go = refused 1 0 0
+accepted (Line line) go = refused 2 line 0
+accepted (Form line field) go = refused 3 line field
+accepted (Range line field) go = refused 4 line field
+accepted Hot go = refused 5 2 8
+accepted (Trailing line) go = refused 6 line 0
+
+-- The answer to a sheet, with a table of so many words and a part of so many bytes.
+unfoldable pub answerOf : List ℕ → ℕ → ℕ → Answer
+answerOf sheet words bytes =
+    let r : Reading = sheetOf sheet in
+    accepted (r .refusal) (answerFor (frameOf r) words bytes)
+
+-- "Every figure of a refused reply not named is 0."
+abbrev pub refusedAs : ℕ → ℕ → ℕ → Reply
+refusedAs number line field = record { refusal = number; line = line; field = field; time = 0; energy = 0; temperature = 0; peak = 0 }
+
+-- A plan's reply "holds refusal 0, line 0, field 0, total time, energy and final temperature of the run without grains, and a
+-- peak figure".
+abbrev pub plannedAs : Figures → ℕ → Reply
+plannedAs k peak = record { refusal = 0; line = 0; field = 0; time = k .time; energy = k .energy; temperature = k .temperature; peak = peak }
+
+-- The reply, but for a plan's peak figure; "no plan" is 10.
+abbrev pub replyOf : Answer → ℕ → Reply
+replyOf (refused number line field) peak = refusedAs number line field
+replyOf (found s (planned js)) peak = plannedAs (figures s (start s) js) peak
+replyOf (found s noPlan) peak = refusedAs 10 0 0
+
+-- A plan's peak figure is open: "at least the highest temperature at a job end of that run and at most C".
+abbrev pub PeakOf : Answer → ℕ → Type 0
+PeakOf (refused number line field) peak = Unit
+PeakOf (found s (planned js)) peak = Between ((exactRun s (start s) js) .peak) s.temperatureLimit peak
+PeakOf (found s noPlan) peak = Unit
+
+-- The table afterwards: 1 to 9 leave it, and for a plan and for "no plan" it is filled.
+abbrev pub tableOf : Answer → List ℕ → List ℕ
+tableOf (refused number line field) table = table
+tableOf (found s o) table = filled s table
+
+-- The part afterwards: "A plan writes m level bytes to the start of the part", "nothing beyond"; every refusal leaves it.
+abbrev pub partOf : Answer → List ℕ → List ℕ
+partOf (refused number line field) part = part
+partOf (found s (planned js)) part = js ++ drop s.jobs part
+partOf (found s noPlan) part = part
+
+-- Whether an outcome is a plan.
+abbrev pub isPlan : Outcome → Bool
+isPlan (planned js) = true
+isPlan noPlan = false
+
+-- What looking for a plan hands back and leaves in lent memory.
+pub record Finds (s : Sheet) (words words' bytes bytes' : List ℕ) (b : Bool) : Type 0 where
+  pub plan : b ≡ isPlan (frameOutcome s)
+  pub table : words' ≡ tableOf (found s (frameOutcome s)) words
+  pub part : bytes' ≡ partOf (found s (frameOutcome s)) bytes
+
+-- What the call hands back and what it leaves in lent memory.
+pub record Answers (a : Answer) (words words' bytes bytes' : List ℕ) (r : Reply) : Type 0 where
+  pub reply : r ≡ replyOf a (r .peak)
+  pub table : words' ≡ tableOf a words
+  pub part : bytes' ≡ partOf a bytes
+  pub peak : PeakOf a (r .peak)
+
+-- The figures of a sheet's H line and the cells of its table, as the code hands them on.
+abbrev pub axesOf : Reading → Frame
+axesOf r =
+    record {
+      jobs = r .jobs;
+      levels = r .levels;
+      «start_level» = r .«start_level»;
+      deadline = r .deadline;
+      «energy_budget» = r .«energy_budget»;
+      «temperature_limit» = r .«temperature_limit»;
+      «start_temperature» = r .«start_temperature»;
+      resistance = r .resistance;
+      «energy_step» = r .«energy_step»;
+      «temperature_step» = r .«temperature_step»;
+      «energy_cells» = ceilDiv (r .«energy_budget») (r .«energy_step») + 1;
+      «temperature_cells» = ceilDiv (r .«temperature_limit») (r .«temperature_step») + 1;
+    }
