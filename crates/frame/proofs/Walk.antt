@@ -1,8 +1,8 @@
 -- The plan from a state, one level at a time: its first level, and the plan from the cell to which that job's end is raised.
 -- Assumes nothing.
 use mathlib.Core.Path.{_≡_, refl, sym, ap, ap₂, fun-ext, _∙_}
-use mathlib.Core.List.{List, [], _∷_}
-use Prim.Native.Nat.{ℕ, zero, suc, _+_, _-_, _≤_, _<_, min}
+use mathlib.Core.List.{List, _∷_}
+use Prim.Native.Nat.{ℕ, zero, suc, _-_, _≤_, _<_, min}
 use native.Mathlib.Omega.{arith}
 use Rattle.thermal.specs.Rounding.{raise}
 use Rattle.thermal.proofs.Rounding.{raise-twice}
@@ -10,8 +10,7 @@ use Rattle.frame.specs.Sheet.{Sheet, Ranges}
 use Rattle.frame.specs.Run.{State, fresh, change, job, step, raised}
 use Rattle.frame.specs.Plan.{leastOf, firstWithin, next, cost, via, least, choice, plan}
 use Rattle.frame.specs.Demands.{infeasible}
-use Rattle.frame.proofs.Plan.{least-of-le, first-within, cost-le, cost-lt, least-from}
-use Rattle.frame.proofs.Table.{least-raised}
+use Rattle.frame.proofs.Plan.{least-of-le, first-within, cost-le, cost-lt}
 
 -- The first small enough of k numbers hangs on those k alone.
 pub first-same : (k : ℕ) (f g : ℕ → ℕ) (x : ℕ) → ((j : ℕ) → j < k → f j ≡ g j) → (leastOf k f ≡ leastOf k g) × (firstWithin k f x ≡ firstWithin k g x)

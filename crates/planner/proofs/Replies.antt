@@ -1,6 +1,6 @@
 -- The reply to a frame that is looked at: from the start state's word and the walk's part to the answer.
 -- Assumes nothing.
-use mathlib.Core.Path.{_≡_, refl, sym, ap, subst, _∙_}
+use mathlib.Core.Path.{_≡_, refl, sym, ap, _∙_}
 use mathlib.Core.Bool.{Bool, true, false, true≢false}
 use mathlib.Core.List.{List, [], _∷_, _++_}
 use Prim.Native.Nat.{ℕ, zero, suc, _+_, _-_, _*_, _≤_, _<_, _^_}
@@ -9,13 +9,13 @@ use native.Mathlib.Omega.{arith}
 use borrow.Author.Tests.{le-leb, lt-leb, lt-ltb, le-ltb}
 use types.Run.{OneOf, miss}
 use denote.Enum.Declared.{tagOf}
-use lib.ListN.{length, getD, take, drop, length-append, length-drop, List·getD-append}
+use lib.ListN.{length, getD, take, drop, List·getD-append}
 use lib.Seq.{take-at}
 use Rattle.thermal.specs.Rounding.{ceilDiv}
 use Rattle.thermal.proofs.Rounding.{ceil-least}
 use Rattle.frame.specs.Sheet.{Sheet, Ranges}
 use Rattle.frame.specs.Run.{State, fresh, start, exact, exactRun}
-use Rattle.frame.specs.Demands.{Outcome, planned, noPlan, Below, LevelList, Figures, figures, infeasible}
+use Rattle.frame.specs.Demands.{Outcome, planned, noPlan, Below, figures}
 use Rattle.frame.specs.Demands as frame
 use Rattle.frame.specs.Limits.{tightened}
 use Rattle.frame.specs.Plan.{least, plan, outcome, frameOutcome}

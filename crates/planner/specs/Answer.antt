@@ -9,14 +9,14 @@ use lib.Dec.{ltb}
 use lib.ListN.{drop}
 use Rattle.thermal.specs.Rounding.{ceilDiv}
 use Rattle.frame.specs.Sheet.{Sheet, Between}
-use Rattle.frame.specs.Run.{State, start, exactRun}
+use Rattle.frame.specs.Run.{start, exactRun}
 use Rattle.frame.specs.Demands.{Outcome, planned, noPlan, Figures, figures}
 use Rattle.frame.specs.Plan.{frameOutcome}
 use Rattle.frame.specs.Table.{need, filled}
 use Rattle.sheet.specs.declared.Reading.{Reading}
 use Rattle.sheet.specs.declared.Refusal.{Refusal}
 use Rattle.sheet.specs.declared.Refusal.the-variants.{Nothing, TooLong, Line, Form, Range, Hot, Trailing}
-use Rattle.sheet.specs.Reading.{numberOf, lineOf, fieldOf, sheetOf}
+use Rattle.sheet.specs.Reading.{sheetOf}
 use Rattle.sheet.specs.Frame.{frameOf}
 use Rattle.table.specs.declared.Frame.{Frame}
 use Rattle.planner.specs.declared.Reply.{Reply}

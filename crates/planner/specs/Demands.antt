@@ -1,7 +1,7 @@
 -- The three demands of the request on the planner's reply, in words. They follow from `specs/Answer.antt`:
 -- `proofs/Demands.antt`.
 -- Assumes nothing.
-use mathlib.Core.Logic.{_↔_, _⊎_}
+use mathlib.Core.Logic.{_↔_}
 use mathlib.Core.Path.{_≡_}
 use mathlib.Core.List.{List}
 use Prim.Native.Nat.{ℕ, _≤_, _<_}

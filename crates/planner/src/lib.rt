@@ -15,6 +15,9 @@ use sheet::Reading;
 use sheet::Refusal;
 use table::Frame;
 
+// "need above 4,194,304 words" is refused by 7.
+const TABLE_WORDS_MAX: usize = 4_194_304;
+
 // What the planner says of a sheet: a refusal's number, line and field, or the figures of a plan.
 pub struct Reply {
     pub refusal: u32,
@@ -148,13 +151,14 @@ pub fn plan(s: &[u8], table: &mut [u32], part: &mut [u8]) -> Reply
     };
     let f = frame_of(r);
     let need = need_of(r, f);
-    if 4194304 < need {
+    let jobs = r.jobs as usize;
+    if TABLE_WORDS_MAX < need {
         return refuse(7, 0, 0);
     }
     if table.len() < need {
         return refuse(8, 0, 0);
     }
-    if part.len() < r.jobs as usize {
+    if part.len() < jobs {
         return refuse(9, 0, 0);
     }
     plan_frame(r, f, table, part)

@@ -1,22 +1,18 @@
 -- What a table says of the time that is left is the least time, where it holds the words of one more job done.
 -- Assumes nothing.
 use mathlib.Core.Path.{_≡_, refl, sym, ap, ap₂, _∙_}
-use mathlib.Core.Bool.{cond}
 use mathlib.Core.List.{List}
-use Prim.Native.Nat.{ℕ, zero, suc, _+_, _*_, _-_, _≤_, _<_, min, max}
-use native.Mathlib.Nat.{mul-le-mul-right}
+use Prim.Native.Nat.{ℕ, zero, suc, _+_, _-_, _≤_, _<_, min}
 use native.Mathlib.Numerals.{add-one}
 use native.Mathlib.Omega.{arith}
 use native.Mathlib.Decide.{decLe, decLt}
-use lib.Dec.{leb, ltb}
 use lib.ListN.{getD}
 use borrow.Author.Tests.{lt-ltb, le-ltb, le-leb, lt-leb}
-use Rattle.thermal.specs.Rounding.{ceilDiv}
 use Rattle.frame.specs.Sheet.{Sheet, Ranges}
 use Rattle.frame.specs.Run.{State, change, job, step, raised}
-use Rattle.frame.specs.Plan.{leastOf, firstWithin, next, cost, via, least}
+use Rattle.frame.specs.Plan.{leastOf, next, cost, via, least}
 use Rattle.frame.specs.Demands.{infeasible}
-use Rattle.frame.specs.Table.{energyCells, temperatureCells, need, place, word, wordAt}
+use Rattle.frame.specs.Table.{energyCells, temperatureCells, need, place}
 use Rattle.frame.proofs.Table.{place-lt, energy-cell, temperature-cell, least-word}
 use Rattle.run.specs.Run.{stateOf}
 use Rattle.run.specs.declared.Run.{Run}

@@ -12,7 +12,6 @@ use Rattle.frame.specs.Sheet.{Sheet, Ranges}
 use Rattle.frame.specs.Run.{State, fresh, raised}
 use Rattle.frame.specs.Table.{energyCells, temperatureCells, need, place, word, wordAt}
 use Rattle.run.specs.declared.Run.{Run}
-use Rattle.sheet.specs.declared.Reading.{Reading}
 use Rattle.sheet.specs.declared.Refusal.the-variants.{Nothing}
 use Rattle.sheet.specs.Frame.{frameOf}
 use Rattle.table.specs.declared.Frame.{Frame}

@@ -10,6 +10,9 @@ ghost use Rattle.step.specs.Store.{Stored};
 ghost use Rattle.table.specs.Table.{sheetBy, Axes, AtCell, placeBy, restIn, restBy, Steps, FilledFrom};
 use run::Run;
 
+// "4,294,967,295 where no way exists"
+pub const NO_WAY: u64 = 4_294_967_295;
+
 // The figures of a sheet's H line, and the cells of the table's two axes.
 pub struct Frame {
     pub jobs: u32,
@@ -68,13 +71,13 @@ pub fn way(f: Frame, figures: &[u32; 1672], steady: &[u32; 8], table: &[u32], a:
 {
     let b = step::next_job(a, figures, steady, j);
     if f.energy_budget < b.energy {
-        return 4294967295;
+        return NO_WAY;
     }
     if f.temperature_limit < b.peak {
-        return 4294967295;
+        return NO_WAY;
     }
     let t = b.time + rest_of(f, table, b);
-    if t < 4294967295 { t } else { 4294967295 }
+    if t < NO_WAY { t } else { NO_WAY }
 }
 
 // The least time from a cell on.
@@ -86,7 +89,7 @@ fn least_way(f: Frame, figures: &[u32; 1672], steady: &[u32; 8], table: &[u32], 
     ensures { λ s r. ⌜ r ≡ leastOf (s .levels) (via s (restBy s (now (table .entry))) (stateOf a)) ⌝ }
 {
     let l = f.levels;
-    let mut least: u64 = 4294967295;
+    let mut least = NO_WAY;
     let mut j: u32 = 0;
     while j < l {
         let t = way(f, figures, steady, table, a, j);

@@ -13,6 +13,7 @@ ghost use Rattle.table.specs.Table.{sheetBy, Axes, AtCell, restBy, Holds};
 ghost use Rattle.walk.specs.Walk.{Raises, Starts};
 use run::Run;
 use table::Frame;
+use table::NO_WAY;
 
 // The level of the next job from a cell: the lowest of those that take the least time.
 fn choose(f: Frame, figures: &[u32; 1672], steady: &[u32; 8], table: &[u32], a: Run) -> u32
@@ -23,7 +24,7 @@ fn choose(f: Frame, figures: &[u32; 1672], steady: &[u32; 8], table: &[u32], a: 
     ensures { λ s r. ⌜ r ≡ firstWithin (s .levels) (via s (restBy s (now (table .entry))) (stateOf a)) (leastOf (s .levels) (via s (restBy s (now (table .entry))) (stateOf a))) ⌝ }
 {
     let l = f.levels;
-    let mut least: u64 = 4294967295;
+    let mut least = NO_WAY;
     let mut first: u32 = 0;
     let mut j: u32 = 0;
     while j < l {

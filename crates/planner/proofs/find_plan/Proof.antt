@@ -1,12 +1,11 @@
 use mathlib.Core.Path.{_≡_, refl, ap}
-use mathlib.Core.List.{List, _++_}
 use Prim.Native.Nat.{_≤_}
 use native.Mathlib.Omega.{arith}
-use lib.ListN.{length, drop}
+use lib.ListN.{length}
 use denote.Ref.{now}
 use Rattle.frame.specs.Sheet.{Sheet}
 use Rattle.frame.specs.Run.{State, start}
-use Rattle.frame.specs.Plan.{least, plan}
+use Rattle.frame.specs.Plan.{least}
 use Rattle.frame.specs.Table.{need}
 use Rattle.run.specs.Run.{stateOf}
 use Rattle.sheet.specs.Frame.{frameOf}

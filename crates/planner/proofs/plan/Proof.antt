@@ -1,6 +1,5 @@
-use mathlib.Core.Path.{_≡_}
 use native.Mathlib.Omega.{arith}
-use Rattle.sheet.specs.Frame.{frameOf}
+use denote.Ref.{now}
 use Rattle.planner.proofs.Demands.{demands-hold}
 use Rattle.planner.proofs.Replies.{ranges, answers-sheet, answers-seven, answers-eight, answers-nine, answers-looked}
 use borrow.Author.Needs.{needs}
@@ -38,13 +37,19 @@ frame-of-requires c κs = ranges _ _ (c .before .before .read .ensures) (c .enum
 need-of-requires : tie.Need-need-of-requires
 need-of-requires c κs = (ranges _ _ (c .before .before .before .read .ensures) (c .before .enum-told .given .1), c .frame-of .ensures)
 
+-- src/lib.rt:136:21
+cast-jobs : tie.Need-cast-jobs
+cast-jobs c = search needs
+
 -- src/lib.rt:131:9
 refuse-requires : tie.Need-refuse-requires
 refuse-requires c κs = search needs
 
 -- src/lib.rt:131:9
 returns-2 : tie.Need-returns-2
-returns-2 c = let a = answers-seven _ _ _ _ (c .before .before .before .before .before .before .read .ensures) _ (c .before .before .before .before .enum-told .given .1) _ (c .before .before .need-of .ensures) (c .before .if1 .taken) (c .refuse .ensures) in (a, demands-hold _ _ _ _ _ _ a)
+returns-2 c =
+    let a = answers-seven _ _ _ _ (c .before .before .before .before .before .before .before .read .ensures) _ (c .before .before .before .before .before .enum-told .given .1) _ (c .before .before .before .need-of .ensures) (omega (arith, c .before .if1 .taken)) (c .refuse .ensures) in
+    (a, demands-hold _ _ _ _ _ _ a)
 
 -- src/lib.rt:134:9
 refuse-requires-2 : tie.Need-refuse-requires-2
@@ -52,11 +57,10 @@ refuse-requires-2 c κs = search needs
 
 -- src/lib.rt:134:9
 returns-3 : tie.Need-returns-3
-returns-3 c = let a = answers-eight _ _ _ _ (c .before .before .before .before .before .before .before .read .ensures) _ (c .before .before .before .before .before .enum-told .given .1) _ (c .before .before .before .need-of .ensures) (c .before .before .if1 .left) (c .before .if2 .taken) (c .refuse2 .ensures) in (a, demands-hold _ _ _ _ _ _ a)
-
--- src/lib.rt:136:21
-cast-if3 : tie.Need-cast-if3
-cast-if3 c = search needs
+returns-3 c =
+    let m = c .before .before .before .before .before .before .before .before .before .before .before .before .args in
+    let a = answers-eight _ (now (m .table)) (now (m .part)) _ (c .before .before .before .before .before .before .before .before .read .ensures) _ (c .before .before .before .before .before .before .enum-told .given .1) _ (c .before .before .before .before .need-of .ensures) (omega (arith, c .before .before .if1 .left)) (omega (arith, c .before .if2 .taken)) (c .refuse2 .ensures) in
+    (a, demands-hold _ _ _ _ _ _ a)
 
 -- src/lib.rt:137:9
 refuse-requires-3 : tie.Need-refuse-requires-3
@@ -64,7 +68,10 @@ refuse-requires-3 c κs = search needs
 
 -- src/lib.rt:137:9
 returns-4 : tie.Need-returns-4
-returns-4 c = let a = answers-nine _ _ _ _ (c .before .before .before .before .before .before .before .before .before .read .ensures) _ (c .before .before .before .before .before .before .before .enum-told .given .1) _ (c .before .before .before .before .before .need-of .ensures) (c .before .before .before .before .if1 .left) (c .before .before .before .if2 .left) (c .before .if3 .taken) (c .refuse3 .ensures) in (a, demands-hold _ _ _ _ _ _ a)
+returns-4 c =
+    let m = c .before .before .before .before .before .before .before .before .before .before .before .before .before .args in
+    let a = answers-nine _ (now (m .table)) (now (m .part)) _ (c .before .before .before .before .before .before .before .before .before .read .ensures) _ (c .before .before .before .before .before .before .before .enum-told .given .1) _ (c .before .before .before .before .before .need-of .ensures) (omega (arith, c .before .before .before .if1 .left)) (omega (arith, c .before .before .if2 .left)) (omega (arith, c .before .if3 .taken)) (c .refuse3 .ensures) in
+    (a, demands-hold _ _ _ _ _ _ a)
 
 -- src/lib.rt:139:5
 plan-frame-requires : tie.Need-plan-frame-requires
@@ -72,9 +79,9 @@ plan-frame-requires c κs =
     let k = c .before .before .before .before .before .before .need-of .ensures in (
       ranges _ _ (c .before .before .before .before .before .before .before .before .before .before .read .ensures) (c .before .before .before .before .before .before .before .before .enum-told .given .1),
       c .before .before .before .before .before .before .before .frame-of .ensures,
-      omega (arith, k, c .before .before .before .before .before .if1 .left),
-      omega (arith, k, c .before .before .before .before .if2 .left),
-      c .before .before .if3 .left,
+      omega (arith, k, c .before .before .before .before .if1 .left),
+      omega (arith, k, c .before .before .before .if2 .left),
+      omega (arith, c .before .before .if3 .left),
     )
 
 -- src/lib.rt:119:1
@@ -87,7 +94,10 @@ same-length-2 c = search needs
 
 -- src/lib.rt:119:1
 returns-5 : tie.Need-returns-5
-returns-5 c = let a = answers-looked _ _ _ _ (c .before .before .before .before .before .before .before .before .before .before .before .before .before .before .before .read .ensures) _ (c .before .before .before .before .before .before .before .before .before .before .before .before .before .enum-told .given .1) _ (c .before .before .before .before .before .before .before .before .before .before .before .need-of .ensures) (c .before .before .before .before .before .before .before .before .before .before .if1 .left) (c .before .before .before .before .before .before .before .before .before .if2 .left) _ _ (c .before .before .before .before .before .before .before .if3 .left) (c .before .before .before .before .plan-frame .ensures) in (a, demands-hold _ _ _ _ _ _ a)
+returns-5 c =
+    let m = c .before .before .before .before .before .before .before .before .before .before .before .before .before .before .before .before .before .before .before .args in
+    let a = answers-looked _ (now (m .table)) (now (m .part)) _ (c .before .before .before .before .before .before .before .before .before .before .before .before .before .before .before .read .ensures) _ (c .before .before .before .before .before .before .before .before .before .before .before .before .before .enum-told .given .1) _ (c .before .before .before .before .before .before .before .before .before .before .before .need-of .ensures) (omega (arith, c .before .before .before .before .before .before .before .before .before .if1 .left)) (omega (arith, c .before .before .before .before .before .before .before .before .if2 .left)) _ _ (omega (arith, c .before .before .before .before .before .before .before .if3 .left)) (c .before .before .before .before .plan-frame .ensures) in
+    (a, demands-hold _ _ _ _ _ _ a)
 
 pub plan-spec : {M : Type 1} → statement M
 plan-spec =
@@ -99,11 +109,11 @@ plan-spec =
     returns
     frame-of-requires
     need-of-requires
+    cast-jobs
     refuse-requires
     returns-2
     refuse-requires-2
     returns-3
-    cast-if3
     refuse-requires-3
     returns-4
     plan-frame-requires

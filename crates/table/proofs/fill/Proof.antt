@@ -1,4 +1,4 @@
-use mathlib.Core.Path.{_≡_, sym, ap, subst, _∙_}
+use mathlib.Core.Path.{_≡_, ap, subst, _∙_}
 use Prim.Native.Nat.{ℕ, _*_, _-_, _≤_, _<_}
 use native.Mathlib.Nat.{zero-mul}
 use native.Mathlib.Omega.{arith}
@@ -77,7 +77,7 @@ mul-fill-row : tie.Need-mul-fill-row Inv-loop μ-loop
 mul-fill-row c =
     let a = c .before .before .before .before .before .before .pre .0 in
     let l = c .before .before .loop in
-    omega (arith, row-next a (l .x) (c .before .loop-test .taken), l .inv .1 .most, a .allowed)
+    omega (arith, row-next a (l .x) (omega (arith, c .before .loop-test .taken)), l .inv .1 .most, a .allowed)
 
 -- src/lib.rt:151:9
 fill-row-requires : tie.Need-fill-row-requires Inv-loop μ-loop
@@ -88,7 +88,7 @@ fill-row-requires c κs =
       (a .0, a .1, omega (arith, a .2, l .inv .1 .long)),
       (
         (row-done (a .0) _ h, row-level (a .0) _ h, row-energy (a .0) _ h, row-base (a .0) _ h),
-        rw (row-next (a .0) (l .x) (c .before .loop-test .taken)) (filled-self (l .inv .1)),
+        rw (row-next (a .0) (l .x) (omega (arith, c .before .loop-test .taken))) (filled-self (l .inv .1)),
       ),
     )
 

@@ -1,12 +1,11 @@
 use mathlib.Core.Path.{_≡_, ap, ap₂, subst, _∙_}
 use Prim.Native.Nat.{ℕ, _+_, _*_, _-_, _≤_, _<_}
 use native.Mathlib.Omega.{arith}
-use lib.ListN.{length-set}
 use denote.Ref.{now}
-use Rattle.frame.specs.Run.{State, fresh}
+use Rattle.frame.specs.Run.{fresh}
 use Rattle.frame.specs.Table.{cell, temperatureCells, need}
 use Rattle.run.specs.Run.{stateOf}
-use Rattle.table.specs.Table.{sheetBy, AtCell, FilledFrom}
+use Rattle.table.specs.Table.{sheetBy, FilledFrom}
 use Rattle.table.proofs.Filling.{cell-energy, cell-temperature, at-cell, row-in, row-more}
 use borrow.Author.Needs.{needs}
 use Rattle.table.proofs.fill_row.Statement.{statement}
@@ -76,7 +75,7 @@ in-table : (c : tie.In-loop Inv-loop μ-loop) → let a = c .before .before .bef
 in-table c =
     let a = c .before .before .before .before in
     let q = a .pre .1 .0 in
-    row-in (a .pre .0 .0 .ranges) (a .args .i) (a .args .p) (a .args .a) (a .args .base) _ (q .0) (q .1) (q .2) (q .3) (c .loop-test .taken) (omega (arith, c .before .loop .inv .0, a .pre .0 .0 .temperature-cells)) (a .pre .0 .2) (c .before .loop .inv .1)
+    row-in (a .pre .0 .0 .ranges) (a .args .i) (a .args .p) (a .args .a) (a .args .base) (c .before .loop .b) (q .0) (q .1) (q .2) (q .3) (omega (arith, c .loop-test .taken)) (omega (arith, c .before .loop .inv .0, a .pre .0 .0 .temperature-cells)) (a .pre .0 .2) (c .before .loop .inv .1)
 
 -- src/lib.rt:133:15
 add-table : tie.Need-add-table Inv-loop μ-loop
@@ -101,7 +100,7 @@ loop-again c =
     let q = a .pre .1 .0 in
     let l = c .before .before .before .before .loop in (
       omega (arith, l .inv .0),
-      row-more (a .pre .0 .0 .ranges) (a .args .i) (a .args .p) (a .args .a) (a .args .base) (l .b) (q .0) (q .1) (q .2) (q .3) (c .before .before .before .loop-test .taken) (omega (arith, l .inv .0, a .pre .0 .0 .temperature-cells)) (a .pre .0 .2) (l .inv .1) _ _ (is-cell (c .before .before)) (c .least-way .ensures),
+      row-more (a .pre .0 .0 .ranges) (a .args .i) (a .args .p) (a .args .a) (a .args .base) (l .b) (q .0) (q .1) (q .2) (q .3) (omega (arith, c .before .before .before .loop-test .taken)) (omega (arith, l .inv .0, a .pre .0 .0 .temperature-cells)) (a .pre .0 .2) (l .inv .1) _ _ (is-cell (c .before .before)) (c .least-way .ensures),
     )
 
 -- src/lib.rt:109:1

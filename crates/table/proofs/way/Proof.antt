@@ -1,4 +1,4 @@
-use mathlib.Core.Path.{_≡_, ap, _∙_}
+use mathlib.Core.Path.{_≡_, ap}
 use Prim.Native.Nat.{_+_, min}
 use Rattle.frame.specs.Plan.{via}
 use native.Mathlib.Omega.{arith}

@@ -1,6 +1,6 @@
 use mathlib.Core.Path.{_≡_, sym, ap, _∙_}
 use mathlib.Core.List.{List, _++_}
-use Prim.Native.Nat.{ℕ, _+_, _-_}
+use Prim.Native.Nat.{ℕ, _+_, _-_, _<_}
 use native.Mathlib.Omega.{arith}
 use lib.ListN.{drop}
 use denote.Ref.{now}
@@ -12,7 +12,6 @@ use Rattle.step.proofs.Store.{rests}
 use Rattle.table.specs.Table.{sheetBy}
 use Rattle.table.proofs.Lookup.{next-cell, next-peak}
 use Rattle.walk.proofs.Steps.{cellOf, raises, raised-cell, Going, starts-at, starts-plan, starts-way, going-start, going-level, going-next, going-end}
-use borrow.Author.Needs.{needs}
 use Rattle.walk.proofs.walk.Statement.{statement}
 use Rattle.walk.proofs.walk.Tie as tie
 use Rattle.walk.proofs.walk.Reads as reads
@@ -53,16 +52,20 @@ loop-holds c =
     let x = a .0 .0 in
     going-start (x .ranges) _ _ _ (omega (arith, ap (λ (z : State). z.done) e, w .done, x .jobs)) (starts-at (x .ranges) w e) (starts-way (x .ranges) _ w e (omega (arith, x .jobs)))
 
+-- A job is left.
+inside : (c : tie.In-loop Inv-loop μ-loop) → c .before .loop .i < c .before .before .before .before .before .before .before .args .f .jobs - c .before .before .before .before .before .before .before .args .start .done
+inside c = let a = c .before .before .before .before .before .before .before .pre in omega (arith, c .loop-test .taken, a .0 .0 .jobs, a .1 .1 .0 .done)
+
 -- src/lib.rt:70:13
 choose-requires : tie.Need-choose-requires Inv-loop μ-loop
-choose-requires c κs = let a = c .before .before .before .before .before .before .before .pre in (a .0, c .before .loop .inv .at (c .loop-test .taken))
+choose-requires c κs = let a = c .before .before .before .before .before .before .before .pre in (a .0, c .before .loop .inv .at (inside c))
 
 -- The level taken is the plan's.
 taken : (c : tie.After-choose Inv-loop μ-loop) → let a = c .before .before .before .before .before .before .before .before .args in
     Goes (sheetBy (a .f) (now (a .figures))) (a .f .jobs - a .start .done - (c .before .before .loop .i + 1)) (stateOf (c .before .before .loop .a)) (c .choose .result)
 taken c =
     let a = c .before .before .before .before .before .before .before .before in
-    going-level (a .pre .0 .0 .ranges) (c .before .before .loop .inv) (c .before .loop-test .taken) (now (a .args .table)) (a .pre .1 .0 _) _ (c .choose .ensures)
+    going-level (a .pre .0 .0 .ranges) (c .before .before .loop .inv) (inside (c .before)) (now (a .args .table)) (a .pre .1 .0 _) _ (c .choose .ensures)
 
 -- src/lib.rt:71:19
 cast-part : tie.Need-cast-part Inv-loop μ-loop
@@ -70,14 +73,14 @@ cast-part c = omega (arith, taken c .level, c .before .before .before .before .b
 
 -- src/lib.rt:71:9
 slice-write-part : tie.Need-slice-write-part Inv-loop μ-loop
-slice-write-part c = omega (arith, c .before .loop-test .taken, c .before .before .loop .inv .long, c .before .before .before .before .before .before .before .before .pre .1 .1 .1, c .before .before .before .before .before .before .before .before .pre .0 .0 .jobs)
+slice-write-part c = omega (arith, inside (c .before), c .before .before .loop .inv .long, c .before .before .before .before .before .before .before .before .pre .1 .1 .1, c .before .before .before .before .before .before .before .before .pre .0 .0 .jobs)
 
 -- src/lib.rt:72:26
 next-job-requires : tie.Need-next-job-requires Inv-loop μ-loop
 next-job-requires c κs =
     let a = c .before .before .before .before .before .before .before .before .pre in
     let ok = a .0 .0 .ranges in
-    let at = c .before .before .loop .inv .at (c .before .loop-test .taken) in
+    let at = c .before .before .loop .inv .at (inside (c .before)) in
     rests (a .0 .1) _ _ ok (omega (arith, at .done, ok .jobs .high)) (omega (arith, at .level, ok .levels .high)) (omega (arith, taken c .level, ok .levels .high)) (omega (arith, ap (λ (z : State). z.time) (at .anew))) (omega (arith, at .energy)) (at .temperature)
 
 -- The run after the job, by the definitions.
@@ -92,22 +95,22 @@ raise-run-requires-2 c κs =
     let l = c .before .before .before .loop in
     let w = taken (c .before) in
     let s = sheetBy (c .before .before .before .before .before .before .before .before .before .args .f) (now (c .before .before .before .before .before .before .before .before .before .args .figures)) in
-    let x = stepped c ∙ sym (next-cell s (c .before .choose .result) (l .inv .at (c .before .before .loop-test .taken))) in
+    let x = stepped c ∙ sym (next-cell s (c .before .choose .result) (l .inv .at (inside (c .before .before)))) in
     raises (a .0 .0) (c .next-job .result) (omega (arith, ap (λ (z : State). z.energy) x, w .energy)) (omega (arith, ap (λ (z : State). z.temperature) x, next-peak s (stateOf (l .a)) (c .before .choose .result), w .peak))
 
 -- src/lib.rt:73:9
 add-i : tie.Need-add-i Inv-loop μ-loop
-add-i c = omega (arith, c .before .before .before .loop-test .taken, c .before .before .before .before .before .before .before .before .before .before .pre .0 .0 .jobs, c .before .before .before .before .before .before .before .before .before .before .pre .0 .0 .ranges .jobs .high)
+add-i c = omega (arith, inside (c .before .before .before), c .before .before .before .before .before .before .before .before .before .before .pre .0 .0 .jobs, c .before .before .before .before .before .before .before .before .before .before .pre .0 .0 .ranges .jobs .high)
 
 -- src/lib.rt:69:5
 loop-less : tie.Need-loop-less Inv-loop μ-loop
-loop-less c = omega (arith, c .before .before .before .loop-test .taken)
+loop-less c = omega (arith, inside (c .before .before .before))
 
 -- src/lib.rt:69:5
 loop-again : tie.Need-loop-again Inv-loop μ-loop
 loop-again c =
     let a = c .before .before .before .before .before .before .before .before .before .before in
-    going-next (a .pre .0 .0 .ranges) (c .before .before .before .before .loop .inv) (c .before .before .before .loop-test .taken) (now (a .args .table)) (a .pre .1 .0 _) _ (c .before .before .choose .ensures) (omega (arith, a .pre .1 .1 .1, a .pre .0 .0 .jobs)) _ _ (stepped (c .before)) (raised-cell (a .pre .0 .0) (c .before .next-job .result) _ (c .raise-run2 .ensures))
+    going-next (a .pre .0 .0 .ranges) (c .before .before .before .before .loop .inv) (inside (c .before .before .before)) (now (a .args .table)) (a .pre .1 .0 _) _ (c .before .before .choose .ensures) (omega (arith, a .pre .1 .1 .1, a .pre .0 .0 .jobs)) _ _ (stepped (c .before)) (raised-cell (a .pre .0 .0) (c .before .next-job .result) _ (c .raise-run2 .ensures))
 
 -- src/lib.rt:51:1
 same-length : tie.Need-same-length Inv-loop μ-loop
