@@ -86,7 +86,7 @@ fn bordered(sheet: Sheet, kind: u64, best: Best) -> Sheet
 
 // Lends a sheet's table and part as the kind says: short ones, or with up to 3 words and bytes beyond the need. A sheet that
 // needs more words than the program has is left out.
-fn check_lent(tally: Tally, noise: &Noise, sheet: Sheet, kind: u64, seed: u64) -> Tally
+fn check_with_memory(tally: Tally, noise: &Noise, sheet: Sheet, kind: u64, seed: u64) -> Tally
     requires { ⌜ Small sheet ⌝ }
 {
     let words = cells::need(sheet);
@@ -111,9 +111,9 @@ fn check_seed(tally: Tally, kind: u64, seed: u64) -> Tally
     let t = tally.at_seed(seed);
     if 1 <= kind && kind <= 7 {
         let best = reference(&noise, drawn, seed);
-        check_lent(t, &noise, bordered(drawn, kind, best), kind, seed)
+        check_with_memory(t, &noise, bordered(drawn, kind, best), kind, seed)
     } else {
-        check_lent(t, &noise, drawn, kind, seed)
+        check_with_memory(t, &noise, drawn, kind, seed)
     }
 }
 

@@ -28,8 +28,8 @@ use Rattle.planner.specs.Demands.{Enough, planIn, Fixed, Demand3, Demand
 module _ {s : Sheet} {words bytes : ℕ} {part : List ℕ} {r : Reply} where
   -- ---- refused by 7, 8 or 9: nothing is said of a plan
 
-  silent : Fixed s words bytes part r → 7 ≤ r .refusal → r .refusal ≤ 9 → Demand3 s words bytes part r
-  silent f l h =
+  refused-only : Fixed s words bytes part r → 7 ≤ r .refusal → r .refusal ≤ 9 → Demand3 s words bytes part r
+  refused-only f l h =
       record {
         answer = f;
         levels = λ e. absurd (omega arith);
@@ -41,7 +41,7 @@ module _ {s : Sheet} {words bytes : ℕ} {part : List ℕ} {r : Reply} where
 
   on-seven : 4194304 < need s → r .refusal ≡ 7 → Demand3 s words bytes part r
   on-seven h e =
-      silent
+      refused-only
       (record {
         seven = ((λ q. h), (λ q. e));
         eight = ((λ q. absurd (omega arith)), (λ q. absurd (omega (arith, q .0))));
@@ -54,7 +54,7 @@ module _ {s : Sheet} {words bytes : ℕ} {part : List ℕ} {r : Reply} where
 
   on-eight : need s ≤ 4194304 → words < need s → r .refusal ≡ 8 → Demand3 s words bytes part r
   on-eight g h e =
-      silent
+      refused-only
       (record {
         seven = ((λ q. absurd (omega arith)), (λ q. absurd (omega arith)));
         eight = ((λ q. (g, h)), (λ q. e));
@@ -67,7 +67,7 @@ module _ {s : Sheet} {words bytes : ℕ} {part : List ℕ} {r : Reply} where
 
   on-nine : need s ≤ 4194304 → need s ≤ words → bytes < s.jobs → r .refusal ≡ 9 → Demand3 s words bytes part r
   on-nine f g h e =
-      silent
+      refused-only
       (record {
         seven = ((λ q. absurd (omega arith)), (λ q. absurd (omega arith)));
         eight = ((λ q. absurd (omega arith)), (λ q. absurd (omega (arith, q .1))));

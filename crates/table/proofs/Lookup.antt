@@ -10,7 +10,7 @@ use lib.ListN.{getD}
 use borrow.Author.Tests.{lt-ltb, le-ltb, le-leb, lt-leb}
 use Rattle.frame.specs.Sheet.{Sheet, Ranges}
 use Rattle.frame.specs.Run.{State, change, job, step, raised}
-use Rattle.frame.specs.Plan.{leastOf, next, cost, via, least}
+use Rattle.frame.specs.Plan.{leastOf, firstWithin, next, cost, via, least}
 use Rattle.frame.specs.Demands.{infeasible}
 use Rattle.frame.specs.Table.{energyCells, temperatureCells, need, place}
 use Rattle.frame.proofs.Table.{place-lt, energy-cell, temperature-cell, least-word}
@@ -44,6 +44,26 @@ pub least-same : (k : ℕ) (f g : ℕ → ℕ) → ((j : ℕ) → j < k → f j 
 unfolding leastOf
 least-same zero f g h = refl
 least-same (suc k) f g h = ap₂ min (least-same k f g (λ j l. h j (omega arith))) (h k (omega arith))
+
+-- ---- the first of the least
+
+-- One number more: it is the first of the least where it is less than all before it, and else the first stays.
+module _ (f : ℕ → ℕ) (k : ℕ) where
+  pub first-less : f k < leastOf k f → firstWithin (k + 1) f (leastOf (k + 1) f) ≡ k
+  unfolding firstWithin leastOf
+  first-less h =
+      let m : min (leastOf k f) (f k) ≡ f k = omega arith in
+      rw (add-one, m, lt-leb (leastOf k f) (f k) h) refl
+
+  pub first-kept : leastOf k f ≤ f k → firstWithin (k + 1) f (leastOf (k + 1) f) ≡ firstWithin k f (leastOf k f)
+  unfolding firstWithin leastOf
+  first-kept h =
+      let m : min (leastOf k f) (f k) ≡ leastOf k f = omega arith in
+      rw (add-one, m, le-leb (leastOf k f) (leastOf k f) (omega arith)) refl
+
+pub first-none : (f : ℕ → ℕ) → firstWithin 0 f (leastOf 0 f) ≡ 0
+unfolding firstWithin
+first-none f = refl
 
 -- ---- a step from a cell
 

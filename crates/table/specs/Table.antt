@@ -10,11 +10,13 @@ use lib.ListN.{length, getD}
 use Rattle.thermal.specs.Rounding.{ceilDiv}
 use Rattle.frame.specs.Sheet.{Sheet, Ranges}
 use Rattle.frame.specs.Run.{State, fresh, raised}
+use Rattle.frame.specs.Plan.{leastOf, firstWithin}
 use Rattle.frame.specs.Table.{energyCells, temperatureCells, need, place, word, wordAt}
 use Rattle.run.specs.declared.Run.{Run}
 use Rattle.sheet.specs.declared.Refusal.the-variants.{Nothing}
 use Rattle.sheet.specs.Frame.{frameOf}
 use Rattle.table.specs.declared.Frame.{Frame}
+use Rattle.table.specs.declared.Choice.{Choice}
 
 -- The sheet that has these figures.
 abbrev pub sheetBy : Frame → List ℕ → Sheet
@@ -84,6 +86,10 @@ placeBy f b =
 
 unfoldable pub restIn : Frame → List ℕ → Run → ℕ
 restIn f table b = cond (ltb (b .done) (f .jobs)) (getD table (placeBy f b) 0) 0
+
+-- Of the ways by k levels, the least time, and the first level that takes it.
+abbrev pub choiceOf : ℕ → (ℕ → ℕ) → Choice
+choiceOf k f = record { time = leastOf k f; level = firstWithin k f (leastOf k f) }
 
 -- The table is filled from place k on: "the need's words to the table, nothing beyond".
 pub record FilledFrom (s : Sheet) (k : ℕ) (old new : List ℕ) : Type 0 where

@@ -3,11 +3,11 @@ ghost use Prim.Native.Nat.{_+_, _≤_, _<_, _^_};
 ghost use lib.ListN.{length};
 ghost use Rattle.thermal.specs.Rounding.{ceilDiv};
 ghost use Rattle.frame.specs.Sheet.{Sheet};
-ghost use Rattle.frame.specs.Plan.{leastOf, via};
+ghost use Rattle.frame.specs.Plan.{via};
 ghost use Rattle.frame.specs.Table.{energyCells, temperatureCells, need, place, filled};
 ghost use Rattle.run.specs.Run.{stateOf};
 ghost use Rattle.step.specs.Store.{Stored};
-ghost use Rattle.table.specs.Table.{sheetBy, Axes, AtCell, placeBy, restIn, restBy, Steps, FilledFrom};
+ghost use Rattle.table.specs.Table.{choiceOf, sheetBy, Axes, AtCell, placeBy, restIn, restBy, Steps, FilledFrom};
 use run::Run;
 
 // "4,294,967,295 where no way exists"
@@ -27,6 +27,12 @@ pub struct Frame {
     pub temperature_step: u64,
     pub energy_cells: usize,
     pub temperature_cells: usize,
+}
+
+// The choice at a cell: the level of the next job, and the time from the cell on.
+pub struct Choice {
+    pub time: u64,
+    pub level: u32,
 }
 
 // x / n, rounded up.
@@ -80,25 +86,30 @@ pub fn way(f: Frame, figures: &[u32; 1672], steady: &[u32; 8], table: &[u32], a:
     if t < NO_WAY { t } else { NO_WAY }
 }
 
-// The least time from a cell on.
-fn least_way(f: Frame, figures: &[u32; 1672], steady: &[u32; 8], table: &[u32], a: Run) -> u32
+// The least time from a cell on, and the lowest level of its next job that takes it.
+pub fn choose(f: Frame, figures: &[u32; 1672], steady: &[u32; 8], table: &[u32], a: Run) -> Choice
     ghost { Sheet }
     requires { λ s. ⌜ sheetBy f (now figures) ≡ s ⌝ }
     requires { λ s. ⌜ (Axes s f) × (Stored s (now figures) (now steady)) × (need s ≤ length (now table)) ⌝ }
     requires { λ s. ⌜ AtCell s (stateOf a) ⌝ }
-    ensures { λ s r. ⌜ r ≡ leastOf (s .levels) (via s (restBy s (now (table .entry))) (stateOf a)) ⌝ }
+    ensures { λ s r. ⌜ r ≡ choiceOf (s .levels) (via s (restBy s (now (table .entry))) (stateOf a)) ⌝ }
 {
     let l = f.levels;
     let mut least = NO_WAY;
+    let mut first: u32 = 0;
     let mut j: u32 = 0;
     while j < l {
         let t = way(f, figures, steady, table, a, j);
         if t < least {
             least = t;
+            first = j;
         }
         j += 1;
     }
-    least as u32
+    Choice {
+        time: least,
+        level: first,
+    }
 }
 
 // Fills the words of i jobs done, level p before and energy cell a, which begin at `base`, from the last to the first.
@@ -125,8 +136,8 @@ fn fill_row(
     while 0 < b {
         b -= 1;
         let c = Run::fresh(i, p, energy, b as u64 * step);
-        let w = least_way(f, figures, steady, table, c);
-        table[base + b] = w;
+        let w = choose(f, figures, steady, table, c);
+        table[base + b] = w.time as u32;
     }
 }
 

@@ -2,10 +2,9 @@
 -- Assumes nothing.
 use mathlib.Core.Path.{_≡_, refl, sym, ap, _∙_}
 use mathlib.Core.List.{List, [], _∷_, _++_, append-assoc, append-nil}
-use Prim.Native.Nat.{ℕ, suc, _+_, _-_, _≤_, _<_, min}
+use Prim.Native.Nat.{ℕ, suc, _+_, _-_, _≤_, _<_}
 use native.Mathlib.Numerals.{add-one}
 use native.Mathlib.Omega.{arith}
-use borrow.Author.Tests.{le-leb, lt-leb}
 use lib.ListN.{length, set, take, drop, length-set, take-append-drop}
 use lib.Seq.{take-suc-set, drop-set-lt, drop-drop}
 use Rattle.thermal.specs.Rounding.{raise}
@@ -21,26 +20,6 @@ use Rattle.table.specs.declared.Frame.{Frame}
 use Rattle.table.specs.Table.{Axes, AtCell, restBy, Holds}
 use Rattle.table.proofs.Lookup.{next-level, next-done, next-peak, next-cell, way-least}
 use Rattle.walk.specs.Walk.{Raises, Starts}
-
--- ---- the first of the least
-
--- One number more: it is the first of the least where it is less than all before it, and else the first stays.
-module _ (f : ℕ → ℕ) (k : ℕ) where
-  pub first-less : f k < leastOf k f → firstWithin (k + 1) f (leastOf (k + 1) f) ≡ k
-  unfolding firstWithin leastOf
-  first-less h =
-      let m : min (leastOf k f) (f k) ≡ f k = omega arith in
-      rw (add-one, m, lt-leb (leastOf k f) (f k) h) refl
-
-  pub first-kept : leastOf k f ≤ f k → firstWithin (k + 1) f (leastOf (k + 1) f) ≡ firstWithin k f (leastOf k f)
-  unfolding firstWithin leastOf
-  first-kept h =
-      let m : min (leastOf k f) (f k) ≡ leastOf k f = omega arith in
-      rw (add-one, m, le-leb (leastOf k f) (leastOf k f) (omega arith)) refl
-
-pub first-none : (f : ℕ → ℕ) → firstWithin 0 f (leastOf 0 f) ≡ 0
-unfolding firstWithin
-first-none f = refl
 
 -- ---- the cell at which the walk stands
 

@@ -5,38 +5,14 @@ ghost use lib.ListN.{length, drop};
 ghost use Rattle.thermal.specs.Rounding.{raise};
 ghost use Rattle.frame.specs.Sheet.{Sheet};
 ghost use Rattle.frame.specs.Run.{fresh};
-ghost use Rattle.frame.specs.Plan.{leastOf, firstWithin, via, least, plan};
+ghost use Rattle.frame.specs.Plan.{plan};
 ghost use Rattle.frame.specs.Table.{need};
 ghost use Rattle.run.specs.Run.{stateOf};
 ghost use Rattle.step.specs.Store.{Stored};
-ghost use Rattle.table.specs.Table.{sheetBy, Axes, AtCell, restBy, Holds};
+ghost use Rattle.table.specs.Table.{sheetBy, Axes, Holds};
 ghost use Rattle.walk.specs.Walk.{Raises, Starts};
 use run::Run;
 use table::Frame;
-use table::NO_WAY;
-
-// The level of the next job from a cell: the lowest of those that take the least time.
-fn choose(f: Frame, figures: &[u32; 1672], steady: &[u32; 8], table: &[u32], a: Run) -> u32
-    ghost { Sheet }
-    requires { λ s. ⌜ sheetBy f (now figures) ≡ s ⌝ }
-    requires { λ s. ⌜ (Axes s f) × (Stored s (now figures) (now steady)) × (need s ≤ length (now table)) ⌝ }
-    requires { λ s. ⌜ AtCell s (stateOf a) ⌝ }
-    ensures { λ s r. ⌜ r ≡ firstWithin (s .levels) (via s (restBy s (now (table .entry))) (stateOf a)) (leastOf (s .levels) (via s (restBy s (now (table .entry))) (stateOf a))) ⌝ }
-{
-    let l = f.levels;
-    let mut least = NO_WAY;
-    let mut first: u32 = 0;
-    let mut j: u32 = 0;
-    while j < l {
-        let t = table::way(f, figures, steady, table, a, j);
-        if t < least {
-            least = t;
-            first = j;
-        }
-        j += 1;
-    }
-    first
-}
 
 // The cell to which a run is raised.
 fn raise_run(f: Frame, b: Run) -> Run
@@ -68,7 +44,7 @@ pub fn walk(
     let mut a = raise_run(f, start);
     let mut i: usize = 0;
     while i < n {
-        let j = choose(f, figures, steady, table, a);
+        let j = table::choose(f, figures, steady, table, a).level;
         part[i] = j as u8;
         a = raise_run(f, step::next_job(a, figures, steady, j));
         i += 1;

@@ -1,11 +1,14 @@
-use mathlib.Core.Path.{_≡_, ap, ap₂, subst, _∙_}
+use mathlib.Core.Path.{_≡_, sym, ap, ap₂, subst, _∙_}
 use Prim.Native.Nat.{ℕ, _+_, _*_, _-_, _≤_, _<_}
 use native.Mathlib.Omega.{arith}
 use denote.Ref.{now}
 use Rattle.frame.specs.Run.{fresh}
+use Rattle.frame.specs.Plan.{leastOf, via}
+use Rattle.frame.proofs.Plan.{least-of-bounded}
 use Rattle.frame.specs.Table.{cell, temperatureCells, need}
 use Rattle.run.specs.Run.{stateOf}
-use Rattle.table.specs.Table.{sheetBy, FilledFrom}
+use Rattle.table.specs.Table.{sheetBy, restBy, FilledFrom}
+use Rattle.table.specs.declared.Choice.{Choice}
 use Rattle.table.proofs.Filling.{cell-energy, cell-temperature, at-cell, row-in, row-more}
 use borrow.Author.Needs.{needs}
 use Rattle.table.proofs.fill_row.Statement.{statement}
@@ -13,7 +16,7 @@ use Rattle.table.proofs.fill_row.Tie as tie
 use Rattle.table.proofs.fill_row.Reads as reads
 use Rattle.table.proofs.fill_row.Lts as lts
 use Rattle.run.proofs.Run.fresh.Reads as fresh-reads
-use Rattle.table.proofs.least_way.Reads as least-way-reads
+use Rattle.table.proofs.choose.Reads as choose-reads
 
 abbrev Inv-loop : tie.InvT-loop
 Inv-loop f figures steady table₀ i p a base energy step b₀ table b = (b ≤ f .«temperature_cells») × FilledFrom (sheetBy f figures) (base + b) table₀ table
@@ -61,8 +64,8 @@ is-cell c =
     ∙ ap₂ (fresh (a .args .i) (a .args .p)) (ap (λ (g : ℕ). a .args .a * g) (a .pre .0 .0 .energy-step)) (ap (λ (h : ℕ). (c .before .before .loop .b - 1) * h) (a .pre .0 .0 .temperature-step))
 
 -- src/lib.rt:132:13
-least-way-requires : tie.Need-least-way-requires Inv-loop μ-loop
-least-way-requires c κs =
+choose-requires : tie.Need-choose-requires Inv-loop μ-loop
+choose-requires c κs =
     let a = c .before .before .before .before .before .before in
     let q = a .pre .1 .0 in (
       (a .pre .0 .0, a .pre .0 .1, omega (arith, a .pre .0 .2, c .before .before .before .loop .inv .1 .long)),
@@ -77,30 +80,39 @@ in-table c =
     let q = a .pre .1 .0 in
     row-in (a .pre .0 .0 .ranges) (a .args .i) (a .args .p) (a .args .a) (a .args .base) (c .before .loop .b) (q .0) (q .1) (q .2) (q .3) (omega (arith, c .loop-test .taken)) (omega (arith, c .before .loop .inv .0, a .pre .0 .0 .temperature-cells)) (a .pre .0 .2) (c .before .loop .inv .1)
 
+-- The least way from the cell.
+worked : (c : tie.After-choose Inv-loop μ-loop) → let a = c .before .before .before .before .before .before .before .args in
+    c .choose .result .time ≡ leastOf (sheetBy (a .f) (now (a .figures)) .levels) (via (sheetBy (a .f) (now (a .figures))) (restBy (sheetBy (a .f) (now (a .figures))) (c .before .before .before .before .loop .table)) (stateOf (c .before .before .fresh .result)))
+worked c = ap (λ (q : Choice). q .time) (c .choose .ensures)
+
+-- src/lib.rt:157:28
+cast-table : tie.Need-cast-table Inv-loop μ-loop
+cast-table c = let h : c .before .choose .result .time ≤ 4294967295 = subst (λ (x : ℕ). x ≤ 4294967295) (sym (worked (c .before))) (least-of-bounded _ _) in omega (arith, h)
+
 -- src/lib.rt:133:15
 add-table : tie.Need-add-table Inv-loop μ-loop
-add-table c = omega (arith, in-table (c .before .before .before), c .before .before .before .before .before .before .before .pre .0 .0 .allowed)
+add-table c = omega (arith, in-table (c .before .before .before .before), c .before .before .before .before .before .before .before .before .pre .0 .0 .allowed)
 
 -- src/lib.rt:133:9
 mul-table : tie.Need-mul-table Inv-loop μ-loop
-mul-table c = omega (arith, in-table (c .before .before .before), c .before .before .before .before .before .before .before .pre .0 .0 .allowed)
+mul-table c = omega (arith, in-table (c .before .before .before .before), c .before .before .before .before .before .before .before .before .pre .0 .0 .allowed)
 
 -- src/lib.rt:133:9
 slice-write-table : tie.Need-slice-write-table Inv-loop μ-loop
-slice-write-table c = omega (arith, in-table (c .before .before .before), c .before .before .before .before .before .before .before .pre .0 .2, c .before .before .before .before .loop .inv .1 .long)
+slice-write-table c = omega (arith, in-table (c .before .before .before .before), c .before .before .before .before .before .before .before .before .pre .0 .2, c .before .before .before .before .before .loop .inv .1 .long)
 
 -- src/lib.rt:129:5
 loop-less : tie.Need-loop-less Inv-loop μ-loop
-loop-less c = omega (arith, c .before .before .before .loop-test .taken)
+loop-less c = omega (arith, c .before .before .before .before .loop-test .taken)
 
 -- src/lib.rt:129:5
 loop-again : tie.Need-loop-again Inv-loop μ-loop
 loop-again c =
-    let a = c .before .before .before .before .before .before .before in
+    let a = c .before .before .before .before .before .before .before .before in
     let q = a .pre .1 .0 in
-    let l = c .before .before .before .before .loop in (
+    let l = c .before .before .before .before .before .loop in (
       omega (arith, l .inv .0),
-      row-more (a .pre .0 .0 .ranges) (a .args .i) (a .args .p) (a .args .a) (a .args .base) (l .b) (q .0) (q .1) (q .2) (q .3) (omega (arith, c .before .before .before .loop-test .taken)) (omega (arith, l .inv .0, a .pre .0 .0 .temperature-cells)) (a .pre .0 .2) (l .inv .1) _ _ (is-cell (c .before .before)) (c .least-way .ensures),
+      row-more (a .pre .0 .0 .ranges) (a .args .i) (a .args .p) (a .args .a) (a .args .base) (l .b) (q .0) (q .1) (q .2) (q .3) (omega (arith, c .before .before .before .before .loop-test .taken)) (omega (arith, l .inv .0, a .pre .0 .0 .temperature-cells)) (a .pre .0 .2) (l .inv .1) _ _ (is-cell (c .before .before .before)) (worked (c .before)),
     )
 
 -- src/lib.rt:109:1
@@ -125,7 +137,8 @@ fill-row-spec =
     sub-b
     mul-fresh
     fresh-requires
-    least-way-requires
+    choose-requires
+    cast-table
     add-table
     mul-table
     slice-write-table

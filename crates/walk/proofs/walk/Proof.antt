@@ -9,6 +9,7 @@ use Rattle.frame.specs.Plan.{plan}
 use Rattle.frame.proofs.Walk.{Goes}
 use Rattle.run.specs.Run.{stateOf}
 use Rattle.step.proofs.Store.{rests}
+use Rattle.table.specs.declared.Choice.{Choice}
 use Rattle.table.specs.Table.{sheetBy}
 use Rattle.table.proofs.Lookup.{next-cell, next-peak}
 use Rattle.walk.proofs.Steps.{cellOf, raises, raised-cell, Going, starts-at, starts-plan, starts-way, going-start, going-level, going-next, going-end}
@@ -17,7 +18,7 @@ use Rattle.walk.proofs.walk.Tie as tie
 use Rattle.walk.proofs.walk.Reads as reads
 use Rattle.walk.proofs.walk.Lts as lts
 use Rattle.step.proofs.next_job.Reads as next-job-reads
-use Rattle.walk.proofs.choose.Reads as choose-reads
+use Rattle.table.proofs.choose.Reads as choose-reads
 use Rattle.walk.proofs.raise_run.Reads as raise-run-reads
 
 abbrev Inv-loop : tie.InvT-loop
@@ -62,10 +63,10 @@ choose-requires c κs = let a = c .before .before .before .before .before .befor
 
 -- The level taken is the plan's.
 taken : (c : tie.After-choose Inv-loop μ-loop) → let a = c .before .before .before .before .before .before .before .before .args in
-    Goes (sheetBy (a .f) (now (a .figures))) (a .f .jobs - a .start .done - (c .before .before .loop .i + 1)) (stateOf (c .before .before .loop .a)) (c .choose .result)
+    Goes (sheetBy (a .f) (now (a .figures))) (a .f .jobs - a .start .done - (c .before .before .loop .i + 1)) (stateOf (c .before .before .loop .a)) (c .choose .result .level)
 taken c =
     let a = c .before .before .before .before .before .before .before .before in
-    going-level (a .pre .0 .0 .ranges) (c .before .before .loop .inv) (inside (c .before)) (now (a .args .table)) (a .pre .1 .0 _) _ (c .choose .ensures)
+    going-level (a .pre .0 .0 .ranges) (c .before .before .loop .inv) (inside (c .before)) (now (a .args .table)) (a .pre .1 .0 _) _ (ap (λ (q : Choice). q .level) (c .choose .ensures))
 
 -- src/lib.rt:71:19
 cast-part : tie.Need-cast-part Inv-loop μ-loop
@@ -85,7 +86,7 @@ next-job-requires c κs =
 
 -- The run after the job, by the definitions.
 stepped : (c : tie.After-next-job Inv-loop μ-loop) → let a = c .before .before .before .before .before .before .before .before .before .args in
-    stateOf (c .next-job .result) ≡ step (sheetBy (a .f) (now (a .figures))) (stateOf (c .before .before .before .loop .a)) (c .before .choose .result)
+    stateOf (c .next-job .result) ≡ step (sheetBy (a .f) (now (a .figures))) (stateOf (c .before .before .before .loop .a)) (c .before .choose .result .level)
 stepped c = c .next-job .ensures _ (c .before .before .before .before .before .before .before .before .before .pre .0 .1)
 
 -- src/lib.rt:72:9
@@ -95,8 +96,8 @@ raise-run-requires-2 c κs =
     let l = c .before .before .before .loop in
     let w = taken (c .before) in
     let s = sheetBy (c .before .before .before .before .before .before .before .before .before .args .f) (now (c .before .before .before .before .before .before .before .before .before .args .figures)) in
-    let x = stepped c ∙ sym (next-cell s (c .before .choose .result) (l .inv .at (inside (c .before .before)))) in
-    raises (a .0 .0) (c .next-job .result) (omega (arith, ap (λ (z : State). z.energy) x, w .energy)) (omega (arith, ap (λ (z : State). z.temperature) x, next-peak s (stateOf (l .a)) (c .before .choose .result), w .peak))
+    let x = stepped c ∙ sym (next-cell s (c .before .choose .result .level) (l .inv .at (inside (c .before .before)))) in
+    raises (a .0 .0) (c .next-job .result) (omega (arith, ap (λ (z : State). z.energy) x, w .energy)) (omega (arith, ap (λ (z : State). z.temperature) x, next-peak s (stateOf (l .a)) (c .before .choose .result .level), w .peak))
 
 -- src/lib.rt:73:9
 add-i : tie.Need-add-i Inv-loop μ-loop
@@ -110,7 +111,7 @@ loop-less c = omega (arith, inside (c .before .before .before))
 loop-again : tie.Need-loop-again Inv-loop μ-loop
 loop-again c =
     let a = c .before .before .before .before .before .before .before .before .before .before in
-    going-next (a .pre .0 .0 .ranges) (c .before .before .before .before .loop .inv) (inside (c .before .before .before)) (now (a .args .table)) (a .pre .1 .0 _) _ (c .before .before .choose .ensures) (omega (arith, a .pre .1 .1 .1, a .pre .0 .0 .jobs)) _ _ (stepped (c .before)) (raised-cell (a .pre .0 .0) (c .before .next-job .result) _ (c .raise-run2 .ensures))
+    going-next (a .pre .0 .0 .ranges) (c .before .before .before .before .loop .inv) (inside (c .before .before .before)) (now (a .args .table)) (a .pre .1 .0 _) _ (ap (λ (q : Choice). q .level) (c .before .before .choose .ensures)) (omega (arith, a .pre .1 .1 .1, a .pre .0 .0 .jobs)) _ _ (stepped (c .before)) (raised-cell (a .pre .0 .0) (c .before .next-job .result) _ (c .raise-run2 .ensures))
 
 -- src/lib.rt:51:1
 same-length : tie.Need-same-length Inv-loop μ-loop

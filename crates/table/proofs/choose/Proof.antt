@@ -1,4 +1,4 @@
-use mathlib.Core.Path.{_≡_, sym, ap, _∙_}
+use mathlib.Core.Path.{_≡_, sym, ap, ap₂, _∙_}
 use mathlib.Core.Logic.{⊎-elim}
 use Prim.Native.Nat.{ℕ, _-_, _≤_}
 use native.Mathlib.Nat.{le-antisymm}
@@ -6,14 +6,13 @@ use native.Mathlib.Omega.{arith}
 use denote.Ref.{now}
 use Rattle.frame.specs.Plan.{leastOf, firstWithin, via}
 use Rattle.run.specs.Run.{stateOf}
-use Rattle.table.specs.Table.{sheetBy, restBy}
-use Rattle.table.proofs.Lookup.{least-none, least-more}
-use Rattle.walk.proofs.Steps.{first-none, first-less, first-kept}
-use Rattle.walk.proofs.choose.Statement.{statement}
-use Rattle.walk.proofs.choose.Tie as tie
-use Rattle.walk.proofs.choose.Reads as reads
-use Rattle.walk.proofs.choose.Lts as lts
+use Rattle.table.specs.Table.{choiceOf, sheetBy, restBy}
+use Rattle.table.proofs.Lookup.{least-none, least-more, first-none, first-less, first-kept}
+use Rattle.table.proofs.choose.Statement.{statement}
+use Rattle.table.proofs.choose.Tie as tie
+use Rattle.table.proofs.choose.Reads as reads
+use Rattle.table.proofs.choose.Lts as lts
 use Rattle.table.proofs.way.Reads as way-reads
 
 abbrev Inv-loop : tie.InvT-loop
 Inv-loop f figures steady table a l least₀ first₀ j₀ least first j = let w = via (sheetBy f figures) (restBy (sheetBy f figures) table) (stateOf a) in
@@ -62,7 +61,8 @@ returns : tie.Need-returns Inv-loop μ-loop
 returns c =
     let i = c .before .loop .inv in
     let w = ways (c .before .before .before) in
-    i .2 ∙ ap (λ (k : ℕ). firstWithin k w (leastOf k w)) (le-antisymm (i .0) (c .loop-test .left) ∙ c .before .before .before .pre .0 .0 .levels)
+    let k = le-antisymm (i .0) (c .loop-test .left) ∙ c .before .before .before .pre .0 .0 .levels in
+    ap₂ (λ (x y : ℕ). record { time = x; level = y }) (i .1) (i .2) ∙ ap (λ (m : ℕ). choiceOf m w) k
 
 pub choose-spec : {M : Type 1} → statement M
 choose-spec =
