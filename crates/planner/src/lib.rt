@@ -64,23 +64,19 @@ fn frame_of(r: Reading) -> Frame
     requires { ⌜ Ranges (frameOf r) ⌝ }
     ensures { λ f. ⌜ f ≡ axesOf r ⌝ }
 {
-    let budget = r.energy_budget as u64;
-    let limit = r.temperature_limit as u64;
-    let energy_step = r.energy_step as u64;
-    let temperature_step = r.temperature_step as u64;
-    let energy_cells = table::ceil_div(budget, energy_step) as usize + 1;
-    let temperature_cells = table::ceil_div(limit, temperature_step) as usize + 1;
+    let energy_cells = table::ceil_div(r.energy_budget, r.energy_step) as usize + 1;
+    let temperature_cells = table::ceil_div(r.temperature_limit, r.temperature_step) as usize + 1;
     Frame {
         jobs: r.jobs,
         levels: r.levels,
         start_level: r.start_level,
         deadline: r.deadline,
-        energy_budget: budget,
-        temperature_limit: limit,
+        energy_budget: r.energy_budget as u64,
+        temperature_limit: r.temperature_limit as u64,
         start_temperature: r.start_temperature,
         resistance: r.resistance,
-        energy_step: energy_step,
-        temperature_step: temperature_step,
+        energy_step: r.energy_step,
+        temperature_step: r.temperature_step,
         energy_cells: energy_cells,
         temperature_cells: temperature_cells,
     }

@@ -4,7 +4,7 @@
 use mathlib.Core.Path.{_≡_}
 use mathlib.Core.Bool.{cond}
 use mathlib.Core.List.{List}
-use Prim.Native.Nat.{ℕ, _+_, _*_, _≤_, _<_, _^_}
+use Prim.Native.Nat.{ℕ, _+_, _*_, _≤_, _<_}
 use lib.Dec.{ltb}
 use lib.ListN.{length, getD}
 use Rattle.thermal.specs.Rounding.{ceilDiv}
@@ -61,8 +61,8 @@ pub record AtCell (s : Sheet) (a : State) : Type 0 where
 
 -- What finding a run's cell may rest on: the steps are some, and the energy and temperature are small.
 pub record Steps (f : Frame) (b : Run) : Type 0 where
-  pub energy : b .energy < 2 ^ 63
-  pub temperature : b .temperature < 2 ^ 63
+  pub energy : b .energy ≤ 2000000000
+  pub temperature : b .temperature ≤ 2000000000
   pub energy-step : 1 ≤ f .«energy_step»
   pub energy-step-most : f .«energy_step» ≤ 2000000000
   pub temperature-step : 1 ≤ f .«temperature_step»

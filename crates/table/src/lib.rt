@@ -1,5 +1,5 @@
 ghost use mathlib.Core.Path.{_≡_};
-ghost use Prim.Native.Nat.{_+_, _≤_, _<_, _^_};
+ghost use Prim.Native.Nat.{_+_, _≤_, _<_};
 ghost use lib.ListN.{length};
 ghost use Rattle.thermal.specs.Rounding.{ceilDiv};
 ghost use Rattle.frame.specs.Sheet.{Sheet};
@@ -23,8 +23,8 @@ pub struct Frame {
     pub temperature_limit: u64,
     pub start_temperature: u32,
     pub resistance: u32,
-    pub energy_step: u64,
-    pub temperature_step: u64,
+    pub energy_step: u32,
+    pub temperature_step: u32,
     pub energy_cells: usize,
     pub temperature_cells: usize,
 }
@@ -36,8 +36,8 @@ pub struct Choice {
 }
 
 // x / n, rounded up.
-pub fn ceil_div(x: u64, n: u64) -> u64
-    requires { ⌜ (x < 2 ^ 63) × (1 ≤ n) × (n ≤ 2000000000) ⌝ }
+pub fn ceil_div(x: u32, n: u32) -> u32
+    requires { ⌜ (x ≤ 2000000000) × (1 ≤ n) × (n ≤ 2000000000) ⌝ }
     ensures { λ r. ⌜ r ≡ ceilDiv x n ⌝ }
 {
     (x + (n - 1)) / n
@@ -48,8 +48,8 @@ fn place_of(f: Frame, b: Run) -> usize
     requires { ⌜ (Steps f b) × (placeBy f b < 4194304) ⌝ }
     ensures { λ r. ⌜ r ≡ placeBy f b ⌝ }
 {
-    let a = ceil_div(b.energy, f.energy_step) as usize;
-    let t = ceil_div(b.temperature, f.temperature_step) as usize;
+    let a = ceil_div(b.energy as u32, f.energy_step) as usize;
+    let t = ceil_div(b.temperature as u32, f.temperature_step) as usize;
     let row = b.done as usize * f.levels as usize + b.level as usize;
     (row * f.energy_cells + a) * f.temperature_cells + t
 }
@@ -130,8 +130,8 @@ fn fill_row(
     requires { λ s. ⌜ FilledFrom s (base + temperatureCells s) (now table) (now table) ⌝ }
     ensures { λ s r. ⌜ FilledFrom s base (now (table .entry)) (now (table .exit)) ⌝ }
 {
-    let energy = a as u64 * f.energy_step;
-    let step = f.temperature_step;
+    let energy = a as u64 * f.energy_step as u64;
+    let step = f.temperature_step as u64;
     let mut b = f.temperature_cells;
     while 0 < b {
         b -= 1;

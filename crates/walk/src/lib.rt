@@ -19,9 +19,10 @@ fn raise_run(f: Frame, b: Run) -> Run
     requires { ⌜ Raises f b ⌝ }
     ensures { λ r. ⌜ stateOf r ≡ fresh (b .done) (b .level) (raise (f .«energy_step») (b .energy)) (raise (f .«temperature_step») (b .temperature)) ⌝ }
 {
-    let energy = table::ceil_div(b.energy, f.energy_step) * f.energy_step;
-    let temperature = table::ceil_div(b.temperature, f.temperature_step) * f.temperature_step;
-    Run::fresh(b.done, b.level, energy, temperature)
+    let energy = table::ceil_div(b.energy as u32, f.energy_step) * f.energy_step;
+    let temperature = table::ceil_div(b.temperature as u32, f.temperature_step)
+        * f.temperature_step;
+    Run::fresh(b.done, b.level, energy as u64, temperature as u64)
 }
 
 // Follows a filled table from `start`, and writes the level of each job that is left.

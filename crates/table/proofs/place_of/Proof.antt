@@ -10,13 +10,27 @@ use Rattle.table.proofs.place_of.Reads as reads
 use Rattle.table.proofs.place_of.Lts as lts
 use Rattle.table.proofs.ceil_div.Reads as ceil-div-reads
 
+-- src/lib.rt:57:22
+cast-ceil-div : tie.Need-cast-ceil-div
+cast-ceil-div c = search needs
+
 -- src/lib.rt:42:13
 ceil-div-requires : tie.Need-ceil-div-requires
 ceil-div-requires c κs = search needs
 
+cast-a : tie.Need-cast-a
+cast-a c = search needs
+
+-- src/lib.rt:58:22
+cast-ceil-div-2 : tie.Need-cast-ceil-div-2
+cast-ceil-div-2 c = search needs
+
 -- src/lib.rt:43:13
 ceil-div-requires-2 : tie.Need-ceil-div-requires-2
 ceil-div-requires-2 c κs = search needs
+
+cast-t : tie.Need-cast-t
+cast-t c = search needs
 
 -- src/lib.rt:44:15
 cast-row : tie.Need-cast-row
@@ -28,17 +42,17 @@ cast-row-2 c = search needs
 
 -- The place from the inside out, by what the two calls gave: no part of it is larger than the whole.
 abbrev start : tie.After-ceil-div2 → tie.Start
-start c = c .before .before
+start c = c .before .before .before .before
 
 abbrev job-level : tie.After-ceil-div2 → ℕ
 job-level c = start c .args .b .done * start c .args .f .levels + start c .args .b .level
 
 abbrev energy-row : tie.After-ceil-div2 → ℕ
-energy-row c = job-level c * start c .args .f .«energy_cells» + c .before .ceil-div .result
+energy-row c = job-level c * start c .args .f .«energy_cells» + c .before .before .ceil-div .result
 
 is-place : (c : tie.After-ceil-div2) → energy-row c * start c .args .f .«temperature_cells» + c .ceil-div2 .result ≡ placeBy (start c .args .f) (start c .args .b)
 unfolding placeBy
-is-place c = cc (c .before .ceil-div .ensures, c .ceil-div2 .ensures)
+is-place c = cc (c .before .before .ceil-div .ensures, c .ceil-div2 .ensures)
 
 parts : (c : tie.After-ceil-div2) →
     (job-level c < 4194304) × (energy-row c < 4194304) × (energy-row c * start c .args .f .«temperature_cells» + c .ceil-div2 .result < 4194304)
@@ -84,8 +98,12 @@ pub place-of-spec : {M : Type 1} → statement M
 place-of-spec =
     tie.close
     (tie.spec
+    cast-ceil-div
     ceil-div-requires
+    cast-a
+    cast-ceil-div-2
     ceil-div-requires-2
+    cast-t
     cast-row
     cast-row-2
     mul-row

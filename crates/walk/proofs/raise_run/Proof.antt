@@ -1,5 +1,5 @@
 use mathlib.Core.Path.{_≡_, ap, ap₂, _∙_}
-use Prim.Native.Nat.{ℕ, _*_}
+use Prim.Native.Nat.{ℕ, _*_, _≤_}
 use native.Mathlib.Omega.{arith}
 use Rattle.thermal.specs.Rounding.{raise}
 use Rattle.thermal.proofs.Rounding.{raise-le}
@@ -12,50 +12,72 @@ use Rattle.walk.proofs.raise_run.Lts as lts
 use Rattle.run.proofs.Run.fresh.Reads as fresh-reads
 use Rattle.table.proofs.ceil_div.Reads as ceil-div-reads
 
--- src/lib.rt:45:18
+-- src/lib.rt:22:34
+cast-ceil-div : tie.Need-cast-ceil-div
+cast-ceil-div c = search needs
+
+-- src/lib.rt:22:18
 ceil-div-requires : tie.Need-ceil-div-requires
 ceil-div-requires c κs = search needs
 
--- What the two calls give is the raised value.
-raised-energy : (c : tie.After-ceil-div) → c .ceil-div .result * c .before .args .f .«energy_step» ≡ raise (c .before .args .f .«energy_step») (c .before .args .b .energy)
+-- What the two calls give, times the step, is the raised value: below 4,000,000,000.
+raised-energy : (c : tie.After-ceil-div) → let a = c .before .before .args in c .ceil-div .result * a .f .«energy_step» ≡ raise (a .f .«energy_step») (a .b .energy)
 unfolding raise
-raised-energy c = ap (λ (q : ℕ). q * c .before .args .f .«energy_step») (c .ceil-div .ensures)
+raised-energy c = ap (λ (q : ℕ). q * c .before .before .args .f .«energy_step») (c .ceil-div .ensures)
 
-raised-temperature : (c : tie.After-ceil-div2) → let a = c .before .before .before .args in c .ceil-div2 .result * a .f .«temperature_step» ≡ raise (a .f .«temperature_step») (a .b .temperature)
+small-energy : (c : tie.After-ceil-div) → c .ceil-div .result * c .before .before .args .f .«energy_step» ≤ 4000000000
+small-energy c = let a = c .before .before in omega (arith, raised-energy c, raise-le (a .args .f .«energy_step») (a .args .b .energy), a .pre)
+
+raised-temperature : (c : tie.After-ceil-div2) → let a = c .before .before .before .before .before .args in c .ceil-div2 .result * a .f .«temperature_step» ≡ raise (a .f .«temperature_step») (a .b .temperature)
 unfolding raise
-raised-temperature c = ap (λ (q : ℕ). q * c .before .before .before .args .f .«temperature_step») (c .ceil-div2 .ensures)
+raised-temperature c = ap (λ (q : ℕ). q * c .before .before .before .before .before .args .f .«temperature_step») (c .ceil-div2 .ensures)
 
--- src/lib.rt:45:18
+small-temperature : (c : tie.After-ceil-div2) → c .ceil-div2 .result * c .before .before .before .before .before .args .f .«temperature_step» ≤ 4000000000
+small-temperature c = let a = c .before .before .before .before .before in omega (arith, raised-temperature c, raise-le (a .args .f .«temperature_step») (a .args .b .temperature), a .pre)
+
+-- src/lib.rt:22:18
 mul-energy : tie.Need-mul-energy
-mul-energy c =
-    let a = c .before .before in
-    omega (arith, raised-energy (c .before), raise-le (a .args .f .«energy_step») (a .args .b .energy), a .pre)
+mul-energy c = omega (arith, small-energy (c .before))
 
--- src/lib.rt:46:23
+-- src/lib.rt:23:39
+cast-ceil-div-2 : tie.Need-cast-ceil-div-2
+cast-ceil-div-2 c = search needs
+
+-- src/lib.rt:23:23
 ceil-div-requires-2 : tie.Need-ceil-div-requires-2
 ceil-div-requires-2 c κs = search needs
 
--- src/lib.rt:46:23
+-- src/lib.rt:23:23
 mul-temperature : tie.Need-mul-temperature
-mul-temperature c =
-    let a = c .before .before .before .before in
-    omega (arith, raised-temperature (c .before), raise-le (a .args .f .«temperature_step») (a .args .b .temperature), a .pre)
+mul-temperature c = omega (arith, small-temperature (c .before))
 
--- src/lib.rt:47:5
+-- src/lib.rt:25:33
+cast-fresh : tie.Need-cast-fresh
+cast-fresh c = omega (arith, small-energy (c .before .before .before .before))
+
+-- src/lib.rt:25:48
+cast-fresh-2 : tie.Need-cast-fresh-2
+cast-fresh-2 c = omega (arith, small-temperature (c .before))
+
+-- src/lib.rt:25:5
 fresh-requires : tie.Need-fresh-requires
 fresh-requires c κs = search needs
 
--- src/lib.rt:41:1
+-- src/lib.rt:18:1
 returns : tie.Need-returns
-returns c = c .fresh .ensures ∙ ap₂ (fresh _ _) (raised-energy (c .before .before .before .before)) (raised-temperature (c .before .before))
+returns c = c .fresh .ensures ∙ ap₂ (fresh _ _) (raised-energy (c .before .before .before .before .before)) (raised-temperature (c .before .before))
 
 pub raise-run-spec : {M : Type 1} → statement M
 raise-run-spec =
     tie.close
     (tie.spec
+    cast-ceil-div
     ceil-div-requires
     mul-energy
+    cast-ceil-div-2
     ceil-div-requires-2
     mul-temperature
+    cast-fresh
+    cast-fresh-2
     fresh-requires
     returns)
