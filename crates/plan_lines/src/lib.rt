@@ -1,0 +1,62 @@
+// The lines of plan text. Each function hands back the place after its line.
+ghost use Prim.Native.Nat.{_+_, _≤_, _<_, _^_};
+ghost use lib.ListN.{length};
+ghost use Rattle.writer.specs.Written.{Wrote};
+ghost use Rattle.plan_lines.specs.Lines.{planLine, jobLine, refusalLine};
+
+// The plan's P line: a letter, four fields of at most 11 bytes, and the line's end.
+pub fn put_plan_line(
+    text: &mut [u8],
+    at: usize,
+    jobs: u64,
+    time: u64,
+    energy: u64,
+    temperature: u64,
+) -> usize
+    requires { ⌜ (jobs < 10 ^ 10) × (time < 10 ^ 10) × (energy < 10 ^ 10) × (temperature < 10 ^ 10) × (at + 46 ≤ length (now text)) ⌝ }
+    ensures { λ r. ⌜ Wrote (now (text .entry)) at (planLine jobs time energy temperature) (now (text .exit)) r ⌝ }
+    ensures { λ r. ⌜ r ≤ at + 46 ⌝ }
+{
+    let letter_end = writer::put_byte(text, at, b'P');
+    let jobs_end = writer::put_field(text, letter_end, jobs);
+    let time_end = writer::put_field(text, jobs_end, time);
+    let energy_end = writer::put_field(text, time_end, energy);
+    let figures_end = writer::put_field(text, energy_end, temperature);
+    writer::put_byte(text, figures_end, b'\n')
+}
+
+// A job's Q line; a name has at most 16 bytes.
+pub fn put_job_line(
+    text: &mut [u8],
+    at: usize,
+    name: &[u8],
+    level: u64,
+    time: u64,
+    energy: u64,
+    temperature: u64,
+) -> usize
+    requires { ⌜ (level < 10 ^ 10) × (time < 10 ^ 10) × (energy < 10 ^ 10) × (temperature < 10 ^ 10) × (length (now name) ≤ 16) × (at + 63 ≤ length (now text)) ⌝ }
+    ensures { λ r. ⌜ Wrote (now (text .entry)) at (jobLine (now (name .entry)) level time energy temperature) (now (text .exit)) r ⌝ }
+    ensures { λ r. ⌜ r ≤ at + 63 ⌝ }
+{
+    let tab_end = writer::put_bytes(text, at, b"Q\t");
+    let name_end = writer::put_bytes(text, tab_end, name);
+    let level_end = writer::put_field(text, name_end, level);
+    let time_end = writer::put_field(text, level_end, time);
+    let energy_end = writer::put_field(text, time_end, energy);
+    let job_end = writer::put_field(text, energy_end, temperature);
+    writer::put_byte(text, job_end, b'\n')
+}
+
+// The R line of a sheet that has no plan.
+pub fn put_refusal_line(text: &mut [u8], at: usize, number: u64, line: u64, field: u64) -> usize
+    requires { ⌜ (number < 10 ^ 10) × (line < 10 ^ 10) × (field < 10 ^ 10) × (at + 35 ≤ length (now text)) ⌝ }
+    ensures { λ r. ⌜ Wrote (now (text .entry)) at (refusalLine number line field) (now (text .exit)) r ⌝ }
+    ensures { λ r. ⌜ r ≤ at + 35 ⌝ }
+{
+    let letter_end = writer::put_byte(text, at, b'R');
+    let number_end = writer::put_field(text, letter_end, number);
+    let line_end = writer::put_field(text, number_end, line);
+    let field_end = writer::put_field(text, line_end, field);
+    writer::put_byte(text, field_end, b'\n')
+}
