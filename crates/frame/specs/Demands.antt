@@ -94,6 +94,7 @@ pub record Figures : Type 0 where
   pub energy : ℕ
   pub temperature : ℕ
 
+-- The figures of a list of levels, in the exact run from the state a.
 unfoldable pub figures : Sheet → State → List ℕ → Figures
 figures s a js =
     let b : State = exactRun s a js in

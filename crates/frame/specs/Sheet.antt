@@ -2,7 +2,7 @@
 --
 -- "All are unsigned whole numbers". A figure of a level, a change or a job is a function of its numbers, counted from 0;
 -- TCEC's name of a figure stands behind document 01's. Ranges bind a figure at every index: a sheet's figures end with its
--- jobs and levels, and whoever makes a `Sheet` of them gives 0 beyond.
+-- jobs and levels, and whoever makes a `Sheet` of them keeps them in range beyond.
 -- Assumes nothing.
 use mathlib.Core.Path.{_≡_}
 use Prim.Native.Nat.{ℕ, _≤_, _<_}

@@ -22,7 +22,7 @@ use Rattle.sheet.specs.Reading.{numberOf, lineOf, fieldOf, sheetOf}
 use Rattle.sheet.specs.Frame.{frameOf}
 use Rattle.sheet.proofs.Ranges.{read-ranges}
 use Rattle.planner.specs.declared.Reply.{Reply}
-use Rattle.planner.specs.Answer.{Answer, refused, found, answerFor, accepted, answerOf, Answers}
+use Rattle.planner.specs.Answer.{Answer, refused, found, answerFor, accepted, answerOf, refusedAs, plannedAs, Answers}
 use Rattle.planner.specs.Demands.{Enough, planIn, Fixed, Demand3, Demands}
 
 module _ {s : Sheet} {words bytes : ℕ} {part : List ℕ} {r : Reply} where
@@ -39,8 +39,9 @@ module _ {s : Sheet} {words bytes : ℕ} {part : List ℕ} {r : Reply} where
         no-plan = λ e. absurd (omega arith);
       }
 
-  on-seven : 4194304 < need s → r .refusal ≡ 7 → Demand3 s words bytes part r
-  on-seven h e =
+  on-seven : 4194304 < need s → r ≡ refusedAs 7 0 0 → Demand3 s words bytes part r
+  on-seven h z =
+      let e = ap (λ (q : Reply). q .refusal) z in
       refused-only
       (record {
         seven = ((λ q. h), (λ q. e));
@@ -49,11 +50,14 @@ module _ {s : Sheet} {words bytes : ℕ} {part : List ℕ} {r : Reply} where
         ten = ((λ q. absurd (omega arith)), (λ q. absurd (omega (arith, q .0 .size))));
         plan = ((λ q. absurd (omega arith)), (λ q. absurd (omega (arith, q .0 .size))));
         best = λ q. absurd (omega arith);
+        place = λ q. absurd (omega arith);
+        zeros = λ q. rw z refl;
       })
       (omega arith) (omega arith)
 
-  on-eight : need s ≤ 4194304 → words < need s → r .refusal ≡ 8 → Demand3 s words bytes part r
-  on-eight g h e =
+  on-eight : need s ≤ 4194304 → words < need s → r ≡ refusedAs 8 0 0 → Demand3 s words bytes part r
+  on-eight g h z =
+      let e = ap (λ (q : Reply). q .refusal) z in
       refused-only
       (record {
         seven = ((λ q. absurd (omega arith)), (λ q. absurd (omega arith)));
@@ -62,11 +66,14 @@ module _ {s : Sheet} {words bytes : ℕ} {part : List ℕ} {r : Reply} where
         ten = ((λ q. absurd (omega arith)), (λ q. absurd (omega (arith, q .0 .table))));
         plan = ((λ q. absurd (omega arith)), (λ q. absurd (omega (arith, q .0 .table))));
         best = λ q. absurd (omega arith);
+        place = λ q. absurd (omega arith);
+        zeros = λ q. rw z refl;
       })
       (omega arith) (omega arith)
 
-  on-nine : need s ≤ 4194304 → need s ≤ words → bytes < s.jobs → r .refusal ≡ 9 → Demand3 s words bytes part r
-  on-nine f g h e =
+  on-nine : need s ≤ 4194304 → need s ≤ words → bytes < s.jobs → r ≡ refusedAs 9 0 0 → Demand3 s words bytes part r
+  on-nine f g h z =
+      let e = ap (λ (q : Reply). q .refusal) z in
       refused-only
       (record {
         seven = ((λ q. absurd (omega arith)), (λ q. absurd (omega arith)));
@@ -75,6 +82,8 @@ module _ {s : Sheet} {words bytes : ℕ} {part : List ℕ} {r : Reply} where
         ten = ((λ q. absurd (omega arith)), (λ q. absurd (omega (arith, q .0 .part))));
         plan = ((λ q. absurd (omega arith)), (λ q. absurd (omega (arith, q .0 .part))));
         best = λ q. absurd (omega arith);
+        place = λ q. absurd (omega arith);
+        zeros = λ q. rw z refl;
       })
       (omega arith) (omega arith)
 
@@ -82,10 +91,12 @@ module _ {s : Sheet} {words bytes : ℕ} {part : List ℕ} {r : Reply} where
 
   module _ (w : Enough s words bytes) where
     on-plan : (js : List ℕ) → frame.Best s s.jobs (start s) js → frame.Sound s (tightened s) s.jobs (start s) js →
-        planIn s part ≡ js → r .refusal ≡ 0 → record { time = r .time; energy = r .energy; temperature = r .temperature } ≡ figures s (start s) js →
+        planIn s part ≡ js → r ≡ plannedAs (figures s (start s) js) (r .peak) →
         Demand3 s words bytes part r
     unfolding figures
-    on-plan js b d p e k =
+    on-plan js b d p z =
+        let e = ap (λ (q : Reply). q .refusal) z in
+        let k : record { time = r .time; energy = r .energy; temperature = r .temperature } ≡ figures s (start s) js = ap (λ (q : Reply). record { time = q .time; energy = q .energy; temperature = q .temperature }) z in
         record {
           answer =
               record {
@@ -95,6 +106,8 @@ module _ {s : Sheet} {words bytes : ℕ} {part : List ℕ} {r : Reply} where
                 ten = ((λ q. absurd (omega arith)), (λ q. absurd (q .1 js (b .keeps))));
                 plan = ((λ q. (w, (js, b .keeps))), (λ q. e));
                 best = λ q. rw p b;
+                place = λ q. (ap (λ (x : Reply). x .line) z, ap (λ (x : Reply). x .field) z);
+                zeros = λ q. absurd (q e);
               };
           levels = λ q. rw p (d .levels);
           meets = λ q. rw p (d .meets);
@@ -104,8 +117,9 @@ module _ {s : Sheet} {words bytes : ℕ} {part : List ℕ} {r : Reply} where
         }
 
     on-none : ((js : List ℕ) → ¬ frame.Keeps s s.deadline s.jobs (start s) js) → ((js : List ℕ) → ¬ frame.Tight s (tightened s) s.jobs (start s) js) →
-        r .refusal ≡ 10 → Demand3 s words bytes part r
-    on-none b d e =
+        r ≡ refusedAs 10 0 0 → Demand3 s words bytes part r
+    on-none b d z =
+        let e = ap (λ (q : Reply). q .refusal) z in
         record {
           answer =
               record {
@@ -115,6 +129,8 @@ module _ {s : Sheet} {words bytes : ℕ} {part : List ℕ} {r : Reply} where
                 ten = ((λ q. (w, b)), (λ q. e));
                 plan = ((λ q. absurd (omega arith)), (λ q. absurd (b (q .1 .0) (q .1 .1))));
                 best = λ q. absurd (omega arith);
+                place = λ q. absurd (omega arith);
+                zeros = λ q. rw z refl;
               };
           levels = λ q. absurd (omega arith);
           meets = λ q. absurd (omega arith);
@@ -130,9 +146,8 @@ on-found : (s : Sheet) (o : Outcome) (n : ℕ) (words words' bytes bytes' : List
     Demand3 s n (length bytes) bytes' r
 on-found s (planned js) n words words' bytes bytes' r w b d a =
     on-plan w js b d (ap (take s.jobs) (a .part) ∙ take-at js (drop s.jobs bytes) s.jobs (b .keeps .levels .size))
-    (ap (λ (q : Reply). q .refusal) (a .reply))
-    (ap (λ (q : Reply). record { time = q .time; energy = q .energy; temperature = q .temperature }) (a .reply))
-on-found s noPlan n words words' bytes bytes' r w b d a = on-none w b d (ap (λ (q : Reply). q .refusal) (a .reply))
+    (a .reply)
+on-found s noPlan n words words' bytes bytes' r w b d a = on-none w b d (a .reply)
 
 on-passed : (s : Sheet) → Ranges s → (n : ℕ) (words words' bytes bytes' : List ℕ) (r : Reply) →
     Answers (answerFor s n (length bytes)) words words' bytes bytes' r → Demand3 s n (length bytes) bytes' r
@@ -141,17 +156,17 @@ on-passed s ok n words words' bytes bytes' r a =
     elim (decLt 4194304 (need s)) [
       | yes h ↦
           let b : Answers (refused 7 0 0) words words' bytes bytes' r = rw (lt-ltb 4194304 (need s) h) at a in
-          on-seven h (ap (λ (q : Reply). q .refusal) (b .reply))
+          on-seven h (b .reply)
       | no h ↦
           elim (decLt n (need s)) [
             | yes k ↦
                 let b : Answers (refused 8 0 0) words words' bytes bytes' r = rw (le-ltb 4194304 (need s) (omega arith), lt-ltb n (need s) k) at a in
-                on-eight (omega arith) k (ap (λ (q : Reply). q .refusal) (b .reply))
+                on-eight (omega arith) k (b .reply)
             | no k ↦
                 elim (decLt (length bytes) s.jobs) [
                   | yes l ↦
                       let b : Answers (refused 9 0 0) words words' bytes bytes' r = rw (le-ltb 4194304 (need s) (omega arith), le-ltb n (need s) (omega arith), lt-ltb (length bytes) s.jobs l) at a in
-                      on-nine (omega arith) (omega arith) l (ap (λ (q : Reply). q .refusal) (b .reply))
+                      on-nine (omega arith) (omega arith) l (b .reply)
                   | no l ↦
                       let b : Answers (found s (frameOutcome s)) words words' bytes bytes' r = rw (le-ltb 4194304 (need s) (omega arith), le-ltb n (need s) (omega arith), le-ltb (length bytes) s.jobs (omega arith)) at a in
                       on-found s (frameOutcome s) n words words' bytes bytes' r (omega arith) (frame-demand2 s ok) (frame-demand3 s ok) b

@@ -38,7 +38,8 @@ use Rattle.table.proofs.Lookup.{rest-by, rest-least, looks}
 use Rattle.table.proofs.Filling.{filled-words}
 use Rattle.walk.specs.Walk.{Starts}
 use Rattle.planner.specs.declared.Reply.{Reply}
-use Rattle.planner.specs.Answer.{Answer, isPlan, refused, found, answerFor, accepted, answerOf, refusedAs, tableOf, partOf, axesOf, Finds, Answers}
+use Rattle.planner.specs.Answer.{Answer, refused, found, answerFor, accepted, answerOf, refusedAs, tableOf, partOf, Answers}
+use Rattle.planner.specs.Inner.{isPlan, axesOf, Finds}
 
 -- A quotient that is rounded up is no larger than what is divided.
 pub ceil-most : (x k : ℕ) → 0 < k → ceilDiv x k ≤ x
@@ -83,7 +84,7 @@ module _ (r : Reading) (f : Frame) (e : f ≡ axesOf r) where
   -- The need in 64 bits: it stays below 2 ^ 63 on every sheet that is read.
   module _ (ok : Ranges (frameOf r)) where
     cells-most : (f .«energy_cells» ≤ 2000000001) × (f .«temperature_cells» ≤ 20001)
-    unfolding frameOf
+    unfolding frameOf energyCells temperatureCells
     cells-most =
         rw e (
           omega (arith, ceil-most (r .«energy_budget») (r .«energy_step») (ok .energyStep .low), ok .energyBudget),

@@ -2,12 +2,11 @@
 -- plan, the reply that says so, and what the table and the part hold afterwards.
 -- Assumes nothing.
 use mathlib.Core.Path.{_≡_}
-use mathlib.Core.Bool.{Bool, true, false, cond}
+use mathlib.Core.Bool.{cond}
 use mathlib.Core.List.{List, _++_}
-use Prim.Native.Nat.{ℕ, _+_}
+use Prim.Native.Nat.{ℕ}
 use lib.Dec.{ltb}
 use lib.ListN.{drop}
-use Rattle.thermal.specs.Rounding.{ceilDiv}
 use Rattle.frame.specs.Sheet.{Sheet, Between}
 use Rattle.frame.specs.Run.{start, exactRun}
 use Rattle.frame.specs.Demands.{Outcome, planned, noPlan, Figures, figures}
@@ -18,7 +17,6 @@ use Rattle.sheet.specs.declared.Refusal.{Refusal}
 use Rattle.sheet.specs.declared.Refusal.the-variants.{Nothing, TooLong, Line, Form, Range, Hot, Trailing}
 use Rattle.sheet.specs.Reading.{sheetOf}
 use Rattle.sheet.specs.Frame.{frameOf}
-use Rattle.table.specs.declared.Frame.{Frame}
 use Rattle.planner.specs.declared.Reply.{Reply}
 
 -- A refusal of 1 to 9 by its number, line and field, before the table is touched; or what is found in the filled table.
@@ -82,38 +80,9 @@ partOf (refused number line field) part = part
 partOf (found s (planned js)) part = js ++ drop s.jobs part
 partOf (found s noPlan) part = part
 
--- Whether an outcome is a plan.
-abbrev pub isPlan : Outcome → Bool
-isPlan (planned js) = true
-isPlan noPlan = false
-
--- What looking for a plan hands back and leaves in lent memory.
-pub record Finds (s : Sheet) (words words' bytes bytes' : List ℕ) (b : Bool) : Type 0 where
-  pub plan : b ≡ isPlan (frameOutcome s)
-  pub table : words' ≡ tableOf (found s (frameOutcome s)) words
-  pub part : bytes' ≡ partOf (found s (frameOutcome s)) bytes
-
 -- What the call hands back and what it leaves in lent memory.
 pub record Answers (a : Answer) (words words' bytes bytes' : List ℕ) (r : Reply) : Type 0 where
   pub reply : r ≡ replyOf a (r .peak)
   pub table : words' ≡ tableOf a words
   pub part : bytes' ≡ partOf a bytes
   pub peak : PeakOf a (r .peak)
-
--- The figures of a sheet's H line and the cells of its table, as the code hands them on.
-abbrev pub axesOf : Reading → Frame
-axesOf r =
-    record {
-      jobs = r .jobs;
-      levels = r .levels;
-      «start_level» = r .«start_level»;
-      deadline = r .deadline;
-      «energy_budget» = r .«energy_budget»;
-      «temperature_limit» = r .«temperature_limit»;
-      «start_temperature» = r .«start_temperature»;
-      resistance = r .resistance;
-      «energy_step» = r .«energy_step»;
-      «temperature_step» = r .«temperature_step»;
-      «energy_cells» = ceilDiv (r .«energy_budget») (r .«energy_step») + 1;
-      «temperature_cells» = ceilDiv (r .«temperature_limit») (r .«temperature_step») + 1;
-    }

@@ -1,5 +1,5 @@
--- The three demands of the request on the planner's reply, in words. They follow from `specs/Answer.antt`:
--- `proofs/Demands.antt`.
+-- The demands of the request on the planner's reply and on the list that the part holds, in words. What the table and the part
+-- hold besides is said by the equations of `specs/Answer.antt`, from which these words follow: `proofs/Demands.antt`.
 -- Assumes nothing.
 use mathlib.Core.Logic.{_↔_}
 use mathlib.Core.Path.{_≡_}
@@ -24,8 +24,8 @@ pub record Enough (s : Sheet) (words bytes : ℕ) : Type 0 where
   pub part : s.jobs ≤ bytes
 
 -- A list of levels "within the limits when rounded up to the grains".
-abbrev pub Lawful : Sheet → List ℕ → Type 0
-Lawful s js = Keeps s s.deadline s.jobs (start s) js
+abbrev pub MeetsRounded : Sheet → List ℕ → Type 0
+MeetsRounded s js = Keeps s s.deadline s.jobs (start s) js
 
 -- A list that "run without grains, meets the deadline, the ration less (m − 1) × (g − 1) and the ceiling less m × (h − 1) after
 -- every job, a limit below zero being met by none".
@@ -42,11 +42,14 @@ pub record Fixed (s : Sheet) (words bytes : ℕ) (part : List ℕ) (r : Reply) :
   pub eight : (r .refusal ≡ 8) ↔ ((need s ≤ 4194304) × (words < need s))
   pub nine : (r .refusal ≡ 9) ↔ ((need s ≤ 4194304) × (need s ≤ words) × (bytes < s.jobs))
   -- "Where no refusal tested before it applies, "no plan" is answered if there is no such list, and only then."
-  pub ten : (r .refusal ≡ 10) ↔ (Enough s words bytes × ((js : List ℕ) → ¬ Lawful s js))
-  pub plan : (r .refusal ≡ 0) ↔ (Enough s words bytes × ((js : List ℕ) × Lawful s js))
+  pub ten : (r .refusal ≡ 10) ↔ (Enough s words bytes × ((js : List ℕ) → ¬ MeetsRounded s js))
+  pub plan : (r .refusal ≡ 0) ↔ (Enough s words bytes × ((js : List ℕ) × MeetsRounded s js))
   -- "of all lists of levels that stay within the limits when rounded up to the grains, the one of least time, and among equals
   -- the first in level order"
   pub best : r .refusal ≡ 0 → Best s s.jobs (start s) (planIn s part)
+  -- a plan's reply holds "line 0, field 0", and "Every figure of a refused reply not named is 0"
+  pub place : r .refusal ≡ 0 → (r .line ≡ 0) × (r .field ≡ 0)
+  pub zeros : ¬ (r .refusal ≡ 0) → r ≡ refusedAs (r .refusal) 0 0
 
 -- Demand 3, "For every sheet that passes checks 1 to 6 of document 01, .. and whatever table and part are lent".
 pub record Demand3 (s : Sheet) (words bytes : ℕ) (part : List ℕ) (r : Reply) : Type 0 where
@@ -62,7 +65,7 @@ pub record Demand3 (s : Sheet) (words bytes : ℕ) (part : List ℕ) (r : Reply)
   -- "Where the answer is "no plan", no list meets these tightened limits."
   pub no-plan : r .refusal ≡ 10 → (js : List ℕ) → ¬ MeetsTightened s js
 
--- All of it, for every sequence of bytes offered as a sheet.
+-- For every sequence of bytes offered as a sheet.
 pub record Demands (sheet : List ℕ) (words bytes : ℕ) (part : List ℕ) (r : Reply) : Type 0 where
   -- a sheet that fails one of checks 1 to 6 is refused for the first that it fails
   pub fails : ¬ ((sheetOf sheet) .refusal ≡ Nothing) → let f = (sheetOf sheet) .refusal in r ≡ refusedAs (numberOf f) (lineOf f) (fieldOf f)

@@ -4,8 +4,8 @@ ghost use Rattle.frame.specs.Sheet.{Sheet};
 ghost use Rattle.frame.specs.Run.{fresh, step};
 ghost use Rattle.run.specs.Run.{stateOf, FiguresOf, Bounds};
 
-// The exact run so far (document 01: the run without grains), "one state that each job carries forward": jobs done, present
-// level, time, energy, temperature, and the highest temperature at a job end.
+// A run so far, "one state that each job carries forward": jobs done, present level, time, energy, temperature, and the highest
+// temperature at a job end.
 pub struct Run {
     pub done: u32,
     pub level: u32,

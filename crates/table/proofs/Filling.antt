@@ -39,14 +39,14 @@ module _ (s : Sheet) where
 -- ---- filled from a place on
 
 pub filled-none : (s : Sheet) (old : List ℕ) → FilledFrom s (need s) old old
-filled-none s old = record { most = omega arith; long = refl; within = λ q l h. absurd (omega arith); beyond = λ q h. refl }
+filled-none s old = record { most = omega arith; long = refl; within = λ q l h. absurd (omega arith); beyond = λ q h. refl; ahead = λ q h. refl }
 
 pub filled-self : {s : Sheet} {k : ℕ} {old new : List ℕ} → FilledFrom s k old new → FilledFrom s k new new
-filled-self w = record { most = w .most; long = refl; within = w .within; beyond = λ q h. refl }
+filled-self w = record { most = w .most; long = refl; within = w .within; beyond = λ q h. refl; ahead = λ q h. refl }
 
-pub filled-trans : {s : Sheet} {j k : ℕ} {old mid new : List ℕ} → FilledFrom s j old mid → FilledFrom s k mid new → FilledFrom s k old new
-filled-trans v w =
-    record { most = w .most; long = w .long ∙ v .long; within = w .within; beyond = λ q h. w .beyond q h ∙ v .beyond q h }
+pub filled-trans : {s : Sheet} {j k : ℕ} {old mid new : List ℕ} → k ≤ j → FilledFrom s j old mid → FilledFrom s k mid new → FilledFrom s k old new
+filled-trans g v w =
+    record { most = w .most; long = w .long ∙ v .long; within = w .within; beyond = λ q h. w .beyond q h ∙ v .beyond q h; ahead = λ q h. w .ahead q h ∙ v .ahead q (omega arith) }
 
 -- The words of more jobs done than the last filled cell's are in the table.
 pub filled-holds : {s : Sheet} {k : ℕ} {old new : List ℕ} (i : ℕ) → k ≤ i * s.levels * energyCells s * temperatureCells s →
@@ -87,6 +87,7 @@ module _ {s : Sheet} (ok : Ranges s) {old new : List ℕ} (i p a b : ℕ) (hi : 
                   rw z (getD-set-same new k v 0 in-table ∙ e ∙ cell-word ∙ sym (word-at s i p a b hp ha hb))
             ];
         beyond = λ q h. getD-set-other new k q v 0 (λ z. absurd (omega arith)) ∙ w .beyond q h;
+        ahead = λ q h. getD-set-other new k q v 0 (λ z. absurd (omega arith)) ∙ w .ahead q (omega arith);
       }
 
 -- ---- a row

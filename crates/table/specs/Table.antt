@@ -59,7 +59,7 @@ pub record AtCell (s : Sheet) (a : State) : Type 0 where
   pub energy : a.energy ≤ 4000000000
   pub temperature : a.temperature ≤ 39998
 
--- What finding a run's cell may rest on: the steps are some, and the energy and temperature are small.
+-- What finding a run's cell may rest on: steps and cells of at least 1, and figures that fit 32 bits.
 pub record Steps (f : Frame) (b : Run) : Type 0 where
   pub energy : b .energy ≤ 2000000000
   pub temperature : b .temperature ≤ 2000000000
@@ -78,12 +78,13 @@ placeFor s b = place s b.done b.level (ceilDiv b.energy s.energyStep) (ceilDiv b
 unfoldable pub restBy : Sheet → List ℕ → State → ℕ
 restBy s table b = cond (ltb b.done s.jobs) (getD table (placeFor s b) 0) 0
 
--- The same two by the axes that the code has.
+-- The place of a run's cell, by the axes that the code has.
 unfoldable pub placeBy : Frame → Run → ℕ
 placeBy f b =
     ((b .done * f .levels + b .level) * f .«energy_cells» + ceilDiv (b .energy) (f .«energy_step»)) * f .«temperature_cells»
     + ceilDiv (b .temperature) (f .«temperature_step»)
 
+-- What a table says of the time after b, by the axes that the code has.
 unfoldable pub restIn : Frame → List ℕ → Run → ℕ
 restIn f table b = cond (ltb (b .done) (f .jobs)) (getD table (placeBy f b) 0) 0
 
@@ -91,12 +92,13 @@ restIn f table b = cond (ltb (b .done) (f .jobs)) (getD table (placeBy f b) 0) 0
 abbrev pub choiceOf : ℕ → (ℕ → ℕ) → Choice
 choiceOf k f = record { time = leastOf k f; level = firstWithin k f (leastOf k f) }
 
--- The table is filled from place k on: "the need's words to the table, nothing beyond".
+-- The table is filled from place k on, and its other words are as they were: "the need's words to the table, nothing beyond".
 pub record FilledFrom (s : Sheet) (k : ℕ) (old new : List ℕ) : Type 0 where
   pub most : k ≤ need s
   pub long : length new ≡ length old
   pub within : (q : ℕ) → k ≤ q → q < need s → getD new q 0 ≡ wordAt s q
   pub beyond : (q : ℕ) → need s ≤ q → getD new q 0 ≡ getD old q 0
+  pub ahead : (q : ℕ) → q < k → getD new q 0 ≡ getD old q 0
 
 -- The table holds the words of i jobs done.
 pub record Holds (s : Sheet) (table : List ℕ) (i : ℕ) : Type 0 where

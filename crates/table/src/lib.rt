@@ -11,7 +11,7 @@ ghost use Rattle.table.specs.Table.{choiceOf, sheetBy, Axes, AtCell, pla
 use run::Run;
 
 // "4,294,967,295 where no way exists"
-pub const NO_WAY: u64 = 4_294_967_295;
+const NO_WAY: u64 = 4_294_967_295;
 
 // The figures of a sheet's H line, and the cells of the table's two axes.
 pub struct Frame {

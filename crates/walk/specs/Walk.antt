@@ -8,7 +8,7 @@ use Rattle.frame.specs.Demands.{infeasible}
 use Rattle.run.specs.declared.Run.{Run}
 use Rattle.table.specs.declared.Frame.{Frame}
 
--- What raising a run may rest on, in 64 bits.
+-- What raising a run may rest on, in 32 bits.
 pub record Raises (f : Frame) (b : Run) : Type 0 where
   pub energy : b .energy ≤ 2000000000
   pub temperature : b .temperature ≤ 2000000000

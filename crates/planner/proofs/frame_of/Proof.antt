@@ -1,4 +1,5 @@
 use native.Mathlib.Omega.{arith}
+use Rattle.frame.specs.Table.{energyCells, temperatureCells}
 use Rattle.sheet.specs.Frame.{frameOf}
 use borrow.Author.Needs.{needs}
 use Rattle.planner.proofs.frame_of.Statement.{statement}
@@ -43,6 +44,7 @@ cast-t7 c = search needs
 
 -- src/lib.rt:63:1
 returns : tie.Need-returns
+unfolding frameOf energyCells temperatureCells
 returns c = cc (c .before .before .before .ceil-div .ensures, c .before .before .ceil-div2 .ensures)
 
 pub frame-of-spec : {M : Type 1} → statement M

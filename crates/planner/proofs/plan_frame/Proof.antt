@@ -6,7 +6,7 @@ use Rattle.sheet.specs.Frame.{frameOf}
 use Rattle.step.specs.Store.{Stored}
 use Rattle.step.specs.declared.Steady.{Steady}
 use Rattle.step.proofs.Store.{steady-in, read-stored}
-use Rattle.planner.specs.Answer.{Finds}
+use Rattle.planner.specs.Inner.{Finds}
 use Rattle.planner.proofs.Replies.{same-sheet, ready, plan-levels, answers-none, answers-plan}
 use borrow.Author.Needs.{needs}
 use Rattle.planner.proofs.plan_frame.Statement.{statement}

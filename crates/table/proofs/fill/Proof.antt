@@ -100,7 +100,8 @@ loop-less c = omega (arith, c .before .before .before .before .loop-test .taken)
 loop-again : tie.Need-loop-again Inv-loop μ-loop
 loop-again c =
     let l = c .before .before .before .before .before .loop in
-    (omega (arith, l .inv .0), filled-trans (l .inv .1) (c .before .before .fill-row .ensures))
+    let a = c .before .before .before .before .before .before .before .before .before .pre .0 in
+    (omega (arith, l .inv .0), filled-trans (omega (arith, row-next a (l .x) (omega (arith, c .before .before .before .before .loop-test .taken)))) (l .inv .1) (c .before .before .fill-row .ensures))
 
 -- src/lib.rt:138:1
 same-length : tie.Need-same-length Inv-loop μ-loop
