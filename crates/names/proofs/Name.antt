@@ -10,7 +10,7 @@ use borrow.Author.Tests.{le-leb, lt-leb}
 use Rattle.text.specs.Text.{before, until, beyond, part}
 use Rattle.text.specs.Line.{LineAt}
 use Rattle.text.specs.declared.Line.{Line}
-use Rattle.text.proofs.Text.{drop-none, until-none, beyond-part}
+use Rattle.text.proofs.Text.{drop-none, beyond-part}
 use Rattle.text.proofs.Scanned.{line-part, line-beyond}
 use Rattle.sheet.specs.declared.Reading.{Reading}
 use Rattle.sheet.specs.Reading.{sheetOf}
@@ -27,44 +27,49 @@ unfolding skip
 skip-none zero = refl
 skip-none (suc n) = ap (skip n) (beyond-none 10) ∙ skip-none n
 
--- k lines of the n that come before are skipped, and place p is reached.
-pub record Skipped (s : List ℕ) (n k p : ℕ) : Type 0 where
+-- k of the next n lines from `from` are skipped, and place p is reached.
+pub record Skipped (s : List ℕ) (from n k p : ℕ) : Type 0 where
   pub most : k ≤ n
   pub within : p ≤ length s
-  pub rest : skip n s ≡ skip (n - k) (drop p s)
+  pub rest : skip n (drop from s) ≡ skip (n - k) (drop p s)
 
-pub skipped-none : (s : List ℕ) (n : ℕ) → Skipped s n 0 0
-skipped-none s n = let z : n - 0 ≡ n = omega arith in record { most = omega arith; within = omega arith; rest = rw z refl }
+pub skipped-none : (s : List ℕ) (from n : ℕ) → from ≤ length s → Skipped s from n 0 from
+skipped-none s from n h = let z : n - 0 ≡ n = omega arith in record { most = omega arith; within = h; rest = rw z refl }
 
-module _ {s : List ℕ} {n k p : ℕ} (g : Skipped s n k p) (r : Line) (z : LineAt s p r) where
-  module _ (h : k < n) where
-    left : n - k ≡ suc (n - (k + 1))
-    left = omega arith
+pub skipped-all : {s : List ℕ} {from n k p : ℕ} → Skipped s from n k p → n ≤ k → drop p s ≡ skip n (drop from s)
+unfolding skip
+skipped-all {n = n} {k = k} g h = let w : n - k ≡ 0 = omega arith in sym (rw w at (g .rest))
 
-    pub skipped-on : (r .end ≡ length s → ⊥) → Skipped s n (k + 1) (r .end + 1)
-    unfolding skip
-    skipped-on e =
-        record {
-          most = omega arith;
-          within = omega (arith, z .within, e);
-          rest = rw left at (g .rest) ∙ ap (skip (n - (k + 1))) (line-beyond z);
-        }
+module _ {s : List ℕ} {from n k p : ℕ} (g : Skipped s from n k p) (r : Line) (z : LineAt s p r) (h : k < n) where
+  left : n - k ≡ suc (n - (k + 1))
+  left = omega arith
 
-    -- No line is left: the name is empty.
-    pub skipped-end : r .end ≡ length s → nameAt n s ≡ []
-    unfolding nameAt skip
-    skipped-end e =
-        let d : drop (r .end + 1) s ≡ [] = drop-none s (r .end + 1) (omega arith) in
-        let q : skip n s ≡ [] = rw left at (g .rest) ∙ ap (skip (n - (k + 1))) (line-beyond z ∙ d) ∙ skip-none (n - (k + 1)) in
-        ap (λ (t : List ℕ). beyond 9 (until 10 t)) q ∙ ap (beyond 9) (until-none 10) ∙ beyond-none 9
+  pub skipped-on : (r .end ≡ length s → ⊥) → Skipped s from n (k + 1) (r .end + 1)
+  unfolding skip
+  skipped-on e =
+      record {
+        most = omega arith;
+        within = omega (arith, z .within, e);
+        rest = rw left at (g .rest) ∙ ap (skip (n - (k + 1))) (line-beyond z);
+      }
 
-  -- The line is reached: what stands behind its first byte 9.
-  pub name-part : n ≤ k → (t : ℕ) → t ≡ p + before 9 (part p (r .end) s) → nameAt n s ≡ part (t + 1) (r .end) s
-  unfolding nameAt skip
-  name-part h t e =
-      let w : n - k ≡ 0 = omega arith in
-      let q : skip n s ≡ drop p s = rw w at (g .rest) in
-      ap (λ (x : List ℕ). beyond 9 (until 10 x)) q ∙ ap (beyond 9) (sym (line-part z)) ∙ beyond-part 9 p (r .end) s ∙ ap (λ (i : ℕ). part (i + 1) (r .end) s) (sym e)
+  -- No line is left.
+  pub skipped-end : r .end ≡ length s → drop (r .end) s ≡ skip n (drop from s)
+  unfolding skip
+  skipped-end e =
+      let d : drop (r .end + 1) s ≡ [] = drop-none s (r .end + 1) (omega arith) in
+      drop-none s (r .end) (omega arith) ∙ sym (rw left at (g .rest) ∙ ap (skip (n - (k + 1))) (line-beyond z ∙ d) ∙ skip-none (n - (k + 1)))
+
+-- What stands behind the first byte 9 of a line.
+pub second-part : {s : List ℕ} {p : ℕ} (r : Line) → LineAt s p r → (t : ℕ) → t ≡ p + before 9 (part p (r .end) s) →
+    beyond 9 (until 10 (drop p s)) ≡ part (t + 1) (r .end) s
+second-part {s} {p} r z t e =
+    ap (beyond 9) (sym (line-part z)) ∙ beyond-part 9 p (r .end) s ∙ ap (λ (i : ℕ). part (i + 1) (r .end) s) (sym e)
+
+-- The field of the line that is reached is the name.
+pub name-reached : (s : List ℕ) (n p : ℕ) → drop p s ≡ skip n (drop 0 s) → beyond 9 (until 10 (drop p s)) ≡ nameAt n s
+unfolding nameAt
+name-reached s n p e = ap (λ (x : List ℕ). beyond 9 (until 10 x)) e
 
 -- ---- a job's name in a sheet that was read
 

@@ -1,29 +1,49 @@
 ghost use mathlib.Core.Path.{_≡_};
-ghost use Rattle.names.specs.Name.{nameAt, nameOf};
+ghost use Prim.Native.Nat.{_≤_};
+ghost use lib.ListN.{length, drop};
+ghost use Rattle.text.specs.Text.{until, beyond};
+ghost use Rattle.names.specs.Name.{skip, nameAt, nameOf};
 
-// The second field of the line that n lines come before, as a part of the text; nothing where there is none.
-pub fn name_at(s: &[u8], n: usize) -> &[u8]
-    ensures { λ r. ⌜ now r ≡ nameAt n (now (s .entry)) ⌝ }
+// Where the text goes on after the next n lines from `from`; its end where it has fewer.
+pub fn skip_lines(s: &[u8], from: usize, n: usize) -> usize
+    requires { ⌜ from ≤ length (now s) ⌝ }
+    ensures { λ r. ⌜ (r ≤ length (now (s .entry))) × (drop r (now (s .entry)) ≡ skip n (drop from (now (s .entry)))) ⌝ }
 {
-    let mut p: usize = 0;
+    let mut p = from;
     let mut k: usize = 0;
     while k < n {
         let l = text::scan_line(s, p);
         let e = l.end;
         if e == s.len() {
-            return &s[..0];
+            return e;
         }
         p = e + 1;
         k += 1;
     }
-    let l = text::scan_line(s, p);
+    p
+}
+
+// The second field of the line that starts at `from`, as a part of the text; nothing where there is none.
+pub fn second_field(s: &[u8], from: usize) -> &[u8]
+    requires { ⌜ from ≤ length (now s) ⌝ }
+    ensures { λ r. ⌜ now r ≡ beyond 9 (until 10 (drop from (now (s .entry)))) ⌝ }
+{
+    let l = text::scan_line(s, from);
     let e = l.end;
-    let t = text::find(s, p, e, 9);
+    let t = text::find(s, from, e, 9);
     if t == e {
         return &s[..0];
     }
     let a = t + 1;
     &s[a..e]
+}
+
+// The second field of the line that n lines come before.
+pub fn name_at(s: &[u8], n: usize) -> &[u8]
+    ensures { λ r. ⌜ now r ≡ nameAt n (now (s .entry)) ⌝ }
+{
+    let p = skip_lines(s, 0, n);
+    second_field(s, p)
 }
 
 // The name of job i, as that part of the sheet itself; nothing for a refused sheet or a job that it does not have.
