@@ -1,8 +1,8 @@
 -- Laws of the measuring call's reply: what each of its tests says, and that a list it measures fits the sheet.
 -- Assumes nothing.
-use mathlib.Core.Path.{_≡_, refl, ap, sym, _∙_}
+use mathlib.Core.Path.{_≡_, refl, sym}
 use mathlib.Core.List.{List, [], _∷_}
-use Prim.Native.Nat.{ℕ, zero, suc, _+_, _^_, _≤_, _<_}
+use Prim.Native.Nat.{ℕ, zero, suc, _^_, _≤_, _<_}
 use native.Mathlib.Decide.{decLt}
 use native.Mathlib.Omega.{arith}
 use lib.IntN.{ℤ, subℕ}
@@ -11,16 +11,16 @@ use borrow.Author.Tests.{lt-ltb, le-ltb, eq-eqb, ne-eqb}
 use types.Run.{OneOf, miss}
 use denote.Enum.Declared.{tagOf}
 use Rattle.frame.specs.Sheet.{Sheet, Ranges}
-use Rattle.frame.specs.Run.{State, start, step, exactRun}
+use Rattle.frame.specs.Run.{State, start, exactRun}
 use Rattle.frame.specs.Limits.{margins}
-use Rattle.run.proofs.Small.{Small, small-start, small-step}
+use Rattle.run.proofs.Small.{small-start, small-run}
 use Rattle.sheet.specs.declared.Reading.{Reading}
 use Rattle.sheet.specs.declared.Refusal.{Refusal}
 use Rattle.sheet.specs.declared.Refusal.the-variants.{Nothing, TooLong, Line, Form, Range, Hot, Trailing}
 use Rattle.sheet.specs.Reading.{sheetOf}
 use Rattle.sheet.specs.Frame.{frameOf}
 use Rattle.sheet.proofs.Refusal.{the-type}
-use Rattle.sheet.proofs.Ranges.{read-ranges}
+use Rattle.sheet.proofs.Ranges.{reading-ranges}
 use Rattle.measure.specs.declared.Refused.the-variants.{Nothing as NoRefusal, Sheet as OfSheet, Length, Level}
 use Rattle.measure.specs.declared.Measured.{Measured}
 use Rattle.measure.specs.Measure.{firstAbove, refusedAs, measuredAs, accepted, measureOf}
@@ -34,12 +34,8 @@ pub record Under (a : State) : Type 0 where
   pub temperature : a.temperature < 2 ^ 63
   pub peak : a.peak < 2 ^ 63
 
-run-under : {s : Sheet} → Ranges s → (js : List ℕ) (k : ℕ) (a : State) → Small k a → k + length js ≤ 64 → Under (exactRun s a js)
-run-under r [] k a w h = omega (arith, w .time, w .energy, w .temperature, w .peak)
-run-under {s} r (j ∷ js) k a w h = run-under r js (suc k) (step s a j) (small-step r j w) (omega arith)
-
 pub measured-under : {s : Sheet} → Ranges s → (js : List ℕ) → length js ≤ 64 → Under (exactRun s (start s) js)
-measured-under {s} r js h = run-under r js 0 (start s) (small-start r) (omega arith)
+measured-under {s} r js h = omega (arith, small-run r js 0 (start s) (small-start r))
 
 -- The reply that holds the margins of a run.
 pub margins-are : (s : Sheet) (js : List ℕ) (a : State) → a ≡ exactRun s (start s) js → (time energy temperature : ℤ) →
@@ -100,7 +96,7 @@ module _ (t js : List ℕ) (r : Reading) (e : r ≡ sheetOf t) where
       pub fits-sheet : length js ≤ k → (Ranges (frameOf r)) × (length js ≤ 64) × ((i : ℕ) → getD js i 0 < 8)
       unfolding frameOf
       fits-sheet h =
-          let z : Ranges (frameOf r) = rw e (read-ranges t (ap (λ (x : Reading). x .refusal) (sym e) ∙ n)) in (
+          let z : Ranges (frameOf r) = reading-ranges t r e n in (
             z,
             omega (arith, z .jobs .high),
             λ i. omega (arith, below-all (r .levels) js (z .levels .low) (omega arith) i, z .levels .high),

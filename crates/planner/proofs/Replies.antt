@@ -29,7 +29,6 @@ use Rattle.sheet.specs.declared.Refusal.{Refusal}
 use Rattle.sheet.specs.declared.Refusal.the-variants.{Nothing, TooLong, Line, Form, Range, Hot, Trailing}
 use Rattle.sheet.specs.Reading.{numberOf, lineOf, fieldOf, sheetOf}
 use Rattle.sheet.proofs.Refusal.{the-type}
-use Rattle.sheet.proofs.Ranges.{read-ranges}
 use Rattle.sheet.specs.Frame.{frameOf}
 use Rattle.step.specs.Store.{Stored}
 use Rattle.table.specs.declared.Frame.{Frame}
@@ -223,9 +222,6 @@ module _ {s : Sheet} (ok : Ranges s) {words words' bytes bytes' : List ℕ} wher
         on-plan s words words' bytes bytes' (frameOutcome s) (frame-demand2 s ok) (frame-demand3 s ok) (sym (w .plan) ∙ t) (w .table) (w .part) a q e z
 
 -- ---- the order of the refusals
-
-pub ranges : (sheet : List ℕ) (r : Reading) → r ≡ sheetOf sheet → r .refusal ≡ Nothing → Ranges (frameOf r)
-ranges sheet r e m = rw e (read-ranges sheet (ap (λ (x : Reading). x .refusal) (sym e) ∙ m))
 
 module _ (sheet words bytes : List ℕ) (r : Reading) (e : r ≡ sheetOf sheet) (q : Reply) where
   -- A refused sheet, as a match leaves it.

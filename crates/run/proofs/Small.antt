@@ -2,11 +2,13 @@
 -- 64 jobs.
 -- Assumes nothing.
 use mathlib.Core.Path.{_≡_}
-use Prim.Native.Nat.{ℕ, suc, _*_, _≤_}
+use mathlib.Core.List.{List, [], _∷_}
+use Prim.Native.Nat.{ℕ, suc, _+_, _*_, _≤_}
 use native.Mathlib.Omega.{arith}
+use lib.ListN.{length}
 use Rattle.thermal.proofs.Thermal.{rule-max}
 use Rattle.frame.specs.Sheet.{Sheet, Ranges, steadyOf}
-use Rattle.frame.specs.Run.{State, start, change, job, step}
+use Rattle.frame.specs.Run.{State, start, change, job, step, exactRun}
 use Rattle.run.specs.Run.{stateOf, FiguresOf, Bounds}
 use Rattle.run.specs.declared.Run.{Run}
 use Rattle.run.specs.declared.Change.{Change}
@@ -42,3 +44,10 @@ module _ {s : Sheet} (r : Ranges s) where
   -- The next of 64 jobs may rest on its bounds.
   pub small-bounds : {k : ℕ} {a : Run} {level : ℕ} {c : Change} {b : Job} → k ≤ 64 → Small k (stateOf a) → FiguresOf s a level c b → Bounds a b
   small-bounds {a = a} {level = level} h w f = omega (arith, r .steady level, r .decay a.done level)
+
+  -- After a whole list.
+  pub small-run : (js : List ℕ) (k : ℕ) (a : State) → Small k a → Small (k + length js) (exactRun s a js)
+  small-run [] k a w = let z : k + 0 ≡ k = omega arith in rw z w
+  small-run (j ∷ js) k a w =
+      let z : k + suc (length js) ≡ suc k + length js = omega arith in
+      rw z (small-run js (suc k) (step s a j) (small-step j w))

@@ -1,31 +1,28 @@
 -- The figures of a sheet that is read without refusal lie in the ranges of document 01, 'The sheet'.
 -- Assumes nothing.
-use mathlib.Core.Path.{_≡_, refl, ap}
-use mathlib.Core.Bool.{cond}
+use mathlib.Core.Path.{_≡_, refl, sym, ap, _∙_}
 use mathlib.Core.List.{List}
 use Prim.Native.Nat.{ℕ, zero, suc, _+_, _*_, _-_, _≤_, _<_}
 use native.Mathlib.Decide.{decLt}
 use native.Mathlib.Omega.{arith}
-use lib.Dec.{eqb, ltb}
-use lib.ListN.{length, getD, replicate}
-use borrow.Author.Tests.{ltb-true, ltb-false, lt-ltb}
+use lib.Dec.{ltb}
+use lib.ListN.{getD, replicate}
+use borrow.Author.Tests.{ltb-true, lt-ltb}
 use Rattle.text.specs.Text.{until, beyond, ahead}
 use Rattle.thermal.specs.Thermal.{steadyState}
 use Rattle.frame.specs.Sheet.{Ranges}
 use Rattle.rows.specs.Row.{nameFault}
-use Rattle.rows.specs.declared.Fault.{Fault}
-use Rattle.rows.specs.declared.Fault.the-variants.{Sound, Shape, Form, Range}
+use Rattle.rows.specs.declared.Fault.the-variants.{Sound}
 use Rattle.rows.proofs.Within.{Held, shapeless}
-use Rattle.lines.specs.Lines.{after, Found, blockFrom}
+use Rattle.lines.specs.Lines.{Found, blockFrom}
 use Rattle.lines.specs.declared.Kind.the-variants.{Level, Change, Work}
 use Rattle.lines.proofs.Kept.{cond-cases, after-cases, Kept, kept-zeros, block-kept, Fits, fits-zero, level-takes, change-takes, work-takes, Timed, work-stays, work-timed}
 use Rattle.sheet.specs.Body.{onward, changesFrom, jobsFrom, bodyFrom}
 use Rattle.sheet.specs.declared.Reading.{Reading}
-use Rattle.sheet.specs.declared.Refusal.{Refusal}
-use Rattle.sheet.specs.declared.Refusal.the-variants.{Nothing, TooLong, Line, Form as FormAt, Range as RangeAt, Hot, Trailing}
-use Rattle.sheet.specs.Reading.{numberOf, refusalOf, readAs, refusedAs, headLos, headHis, versionRow, headRow, figuresFrom, headFrom, sheetOf}
+use Rattle.sheet.specs.declared.Refusal.the-variants.{Nothing}
+use Rattle.sheet.specs.Reading.{readAs, headLos, headHis, sheetOf}
 use Rattle.sheet.specs.Frame.{figureAt, frameOf}
-use Rattle.sheet.proofs.Head.{head-held}
+use Rattle.sheet.proofs.Whole.{read-whole}
 
 -- ---- the lines after the H line
 
@@ -135,51 +132,16 @@ module _ (vs st : List ℕ) (h : Held headLos (headHis (getD vs 1 0 - 1)) 10 0 (
 
 -- ---- a whole sheet
 
--- A reading keeps the ranges, unless it is refused.
-abbrev Good : Reading → Type 0
-Good r = r .refusal ≡ Nothing → Ranges (frameOf r)
-
--- A refused reading has a number other than 0.
-refused : (r : Refusal) → (numberOf r ≡ 0 → ⊥) → Good (refusedAs r)
-refused r n e = absurd (n (ap numberOf e))
-
--- A fault is a refusal.
-fault-refused : (f : Fault) (line : ℕ) → (f ≡ Sound → ⊥) → Good (refusedAs (refusalOf f line))
-fault-refused Sound line o = absurd (o refl)
-fault-refused Shape line o = refused (Line line) (λ e. omega arith)
-fault-refused (Form k) line o = refused (FormAt line k) (λ e. omega arith)
-fault-refused (Range k) line o = refused (RangeAt line k) (λ e. omega arith)
-
--- From line 3 on.
-figures-good : (vs t : List ℕ) → Held headLos (headHis (getD vs 1 0 - 1)) 10 0 (replicate 10 0) vs → getD vs 6 0 ≤ getD vs 5 0 → Good (figuresFrom vs t)
-unfolding figuresFrom
-figures-good vs t h cool =
-    let resistance = getD vs 7 0 in
-    let f = bodyFrom (getD vs 0 0) (getD vs 1 0) resistance t 3 (replicate 1672 0) in
-    let z = kept-zeros (Fits resistance) (fits-zero resistance) 1672 refl in
-    let g = body-filled resistance (getD vs 0 0) (getD vs 1 0) (h .high 0 (omega arith) (omega arith)) (h .high 1 (omega arith) (omega arith)) t 3 (replicate 1672 0) z in
-    after-cases Good (f .fault) _ _ (fault-refused (f .fault) (f .line))
-    (λ s. cond-cases Good (eqb (length (f .rest)) 0) _ _ (λ a e. as-ranges vs (f .store) h cool (g .kept) (g .timed s)) (λ a. refused (Trailing (f .line)) (λ e. omega arith)))
-
--- From line 2 on.
-head-good : (t : List ℕ) → Good (headFrom t)
-unfolding headFrom
-head-good t =
-    let row = headRow (until 10 t) in
-    let rest = cond (ltb (getD (row .values) 5 0) (getD (row .values) 6 0)) (refusedAs Hot) (figuresFrom (row .values) (beyond 10 t)) in
-    cond-cases Good (ahead 10 t) (after (row .fault) (refusedAs (refusalOf (row .fault) 2)) rest) (refusedAs (Line 2))
-    (λ a. after-cases Good (row .fault) _ _ (fault-refused (row .fault) 2)
-    (λ s. cond-cases Good (ltb (getD (row .values) 5 0) (getD (row .values) 6 0)) _ _ (λ b. refused Hot (λ e. omega arith))
-    (λ b. figures-good (row .values) (beyond 10 t) (head-held (until 10 t) s) (ltb-false _ _ b))))
-    (λ a. refused (Line 2) (λ e. omega arith))
-
 -- The figures of a sheet that is read without refusal keep the ranges of document 01.
 pub read-ranges : (t : List ℕ) → (sheetOf t) .refusal ≡ Nothing → Ranges (frameOf (sheetOf t))
-unfolding sheetOf
-read-ranges t =
-    let row = versionRow (until 10 t) in
-    let rest = cond (ahead 10 t) (after (row .fault) (refusedAs (refusalOf (row .fault) 1)) (headFrom (beyond 10 t))) (refusedAs (Line 1)) in
-    cond-cases Good (ltb 20480 (length t)) (refusedAs TooLong) rest (λ a. refused TooLong (λ e. omega arith))
-    (λ a. cond-cases Good (ahead 10 t) _ _
-    (λ b. after-cases Good (row .fault) _ _ (fault-refused (row .fault) 1) (λ s. head-good (beyond 10 t)))
-    (λ b. refused (Line 1) (λ e. omega arith)))
+read-ranges t e =
+    let w = read-whole t e in
+    let resistance = getD (w .vs) 7 0 in
+    let h = w .held in
+    let z = kept-zeros (Fits resistance) (fits-zero resistance) 1672 refl in
+    let g = body-filled resistance (getD (w .vs) 0 0) (getD (w .vs) 1 0) (h .high 0 (omega arith) (omega arith)) (h .high 1 (omega arith) (omega arith)) (beyond 10 (beyond 10 t)) 3 (replicate 1672 0) z in
+    rw (w .same) (as-ranges (w .vs) _ h (w .cool) (g .kept) (g .timed (w .sound)))
+
+-- The same of what the reader hands back.
+pub reading-ranges : (t : List ℕ) (r : Reading) → r ≡ sheetOf t → r .refusal ≡ Nothing → Ranges (frameOf r)
+reading-ranges t r e m = rw e (read-ranges t (ap (λ (x : Reading). x .refusal) (sym e) ∙ m))

@@ -1,7 +1,8 @@
 use native.Mathlib.Omega.{arith}
 use denote.Ref.{now}
+use Rattle.sheet.proofs.Ranges.{reading-ranges}
 use Rattle.planner.proofs.Demands.{demands-hold}
-use Rattle.planner.proofs.Replies.{ranges, answers-sheet, answers-seven, answers-eight, answers-nine, answers-looked}
+use Rattle.planner.proofs.Replies.{answers-sheet, answers-seven, answers-eight, answers-nine, answers-looked}
 use borrow.Author.Needs.{needs}
 use Rattle.planner.proofs.plan.Statement.{statement}
 use Rattle.planner.proofs.plan.Tie as tie
@@ -31,11 +32,11 @@ returns c = let a = answers-sheet _ _ _ _ (c .before .before .read .ensures) _ (
 
 -- src/lib.rt:128:9
 frame-of-requires : tie.Need-frame-of-requires
-frame-of-requires c κs = ranges _ _ (c .before .before .read .ensures) (c .enum-told .given .1)
+frame-of-requires c κs = reading-ranges _ _ (c .before .before .read .ensures) (c .enum-told .given .1)
 
 -- src/lib.rt:129:9
 need-of-requires : tie.Need-need-of-requires
-need-of-requires c κs = (ranges _ _ (c .before .before .before .read .ensures) (c .before .enum-told .given .1), c .frame-of .ensures)
+need-of-requires c κs = (reading-ranges _ _ (c .before .before .before .read .ensures) (c .before .enum-told .given .1), c .frame-of .ensures)
 
 -- src/lib.rt:136:21
 cast-jobs : tie.Need-cast-jobs
@@ -77,7 +78,7 @@ returns-4 c =
 plan-frame-requires : tie.Need-plan-frame-requires
 plan-frame-requires c κs =
     let k = c .before .before .before .before .before .before .need-of .ensures in (
-      ranges _ _ (c .before .before .before .before .before .before .before .before .before .before .read .ensures) (c .before .before .before .before .before .before .before .before .enum-told .given .1),
+      reading-ranges _ _ (c .before .before .before .before .before .before .before .before .before .before .read .ensures) (c .before .before .before .before .before .before .before .before .enum-told .given .1),
       c .before .before .before .before .before .before .before .frame-of .ensures,
       omega (arith, k, c .before .before .before .before .if1 .left),
       omega (arith, k, c .before .before .before .if2 .left),
