@@ -192,7 +192,7 @@ module _ (s : Sheet) (words words' bytes bytes' : List ℕ) where
       }
   on-plan noPlan b d t w p a q e z = absurd (true≢false (sym t))
 
-  on-levels : (o : Outcome) → frame.Demand2 s s.jobs (start s) o → isPlan o ≡ true → bytes' ≡ partOf (found s o) bytes →
+  pub on-levels : (o : Outcome) → frame.Demand2 s s.jobs (start s) o → isPlan o ≡ true → bytes' ≡ partOf (found s o) bytes →
       (i : ℕ) → i < s.jobs → getD bytes' i 0 < s.levels
   on-levels (planned js) b t p i h =
       let k : i < length js = omega (arith, b .keeps .levels .size) in

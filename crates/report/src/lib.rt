@@ -1,0 +1,55 @@
+ghost use mathlib.Core.Path.{_≡_};
+ghost use lib.ListN.{length};
+ghost use Rattle.report.specs.Report.{answerIn, refusedAs, reportOf, partOf};
+
+// A refusal's number, line and field, or the length of a plan's text.
+pub struct Report {
+    pub refusal: u32,
+    pub line: usize,
+    pub field: usize,
+    pub length: usize,
+}
+
+// A refused report.
+fn refuse(refusal: u32, line: usize, field: usize) -> Report
+    ensures { λ q. ⌜ q ≡ refusedAs refusal line field ⌝ }
+{
+    Report {
+        refusal,
+        line,
+        field,
+        length: 0,
+    }
+}
+
+// Plans a sheet with a table of its own, and writes the plan's text.
+pub fn write_plan(s: &[u8], text: &mut [u8]) -> Report
+    ensures { λ q. ⌜ q ≡ reportOf (now (s .entry)) (length (now (text .entry))) (answerIn (now (s .entry))) ⌝ }
+    ensures { λ q. ⌜ now (text .exit) ≡ partOf (now (s .entry)) (answerIn (now (s .entry))) (now (text .entry)) ⌝ }
+{
+    let mut table = [0u32; 16384];
+    let mut levels = [0u8; 64];
+    let p = planner::plan(s, &mut table, &mut levels);
+    let refusal = p.refusal;
+    let line = p.line;
+    let field = p.field;
+    if 0 < refusal {
+        if refusal < 10 {
+            return refuse(refusal, line, field);
+        }
+    }
+    if text.len() < 4096 {
+        return refuse(9, 0, 0);
+    }
+    if 0 < refusal {
+        return refuse(10, 0, 0);
+    }
+    let r = sheet::read(s);
+    let n = plan_text::put_plan(s, r, &levels, text);
+    Report {
+        refusal: 0,
+        line: 0,
+        field: 0,
+        length: n,
+    }
+}
