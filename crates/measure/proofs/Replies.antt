@@ -8,8 +8,6 @@ use native.Mathlib.Omega.{arith}
 use lib.IntN.{ℤ, subℕ}
 use lib.ListN.{length, getD}
 use borrow.Author.Tests.{lt-ltb, le-ltb, eq-eqb, ne-eqb}
-use types.Run.{OneOf, miss}
-use denote.Enum.Declared.{tagOf}
 use Rattle.frame.specs.Sheet.{Sheet, Ranges}
 use Rattle.frame.specs.Run.{State, start, exactRun}
 use Rattle.frame.specs.Limits.{margins}
@@ -19,7 +17,7 @@ use Rattle.sheet.specs.declared.Refusal.{Refusal}
 use Rattle.sheet.specs.declared.Refusal.the-variants.{Nothing, TooLong, Line, Form, Range, Hot, Trailing}
 use Rattle.sheet.specs.Reading.{sheetOf}
 use Rattle.sheet.specs.Frame.{frameOf}
-use Rattle.sheet.proofs.Refusal.{the-type}
+use Rattle.sheet.proofs.Apart.{Refuses, refuses-some}
 use Rattle.sheet.proofs.Ranges.{reading-ranges}
 use Rattle.measure.specs.declared.Refused.the-variants.{Nothing as NoRefusal, Sheet as OfSheet, Length, Level}
 use Rattle.measure.specs.declared.Measured.{Measured}
@@ -60,23 +58,19 @@ below-all l (j ∷ js) h q =
 
 -- ---- the reply
 
--- A sheet that is refused, as a match leaves it.
-abbrev pub Refuses : Refusal → Type 0
-Refuses f = OneOf (1 ∷ 2 ∷ 3 ∷ 4 ∷ 5 ∷ 6 ∷ []) (tagOf the-type f)
-
-accepted-other : (f : Refusal) (go : Measured) → Refuses f → accepted f go ≡ refusedAs (OfSheet f)
-accepted-other Nothing go h = absurd (miss (1 ∷ 2 ∷ 3 ∷ 4 ∷ 5 ∷ 6 ∷ []) 0 tt h)
-accepted-other TooLong go h = refl
-accepted-other (Line line) go h = refl
-accepted-other (Form line field) go h = refl
-accepted-other (Range line field) go h = refl
-accepted-other Hot go h = refl
-accepted-other (Trailing line) go h = refl
+accepted-refused : (f : Refusal) (go : Measured) → ¬ (f ≡ Nothing) → accepted f go ≡ refusedAs (OfSheet f)
+accepted-refused Nothing go h = absurd (h refl)
+accepted-refused TooLong go h = refl
+accepted-refused (Line line) go h = refl
+accepted-refused (Form line field) go h = refl
+accepted-refused (Range line field) go h = refl
+accepted-refused Hot go h = refl
+accepted-refused (Trailing line) go h = refl
 
 module _ (t js : List ℕ) (r : Reading) (e : r ≡ sheetOf t) where
   pub measure-refused : Refuses (r .refusal) → refusedAs (OfSheet (r .refusal)) ≡ measureOf t js
   unfolding measureOf
-  measure-refused h = rw (sym e) (sym (accepted-other (r .refusal) _ h))
+  measure-refused h = rw (sym e) (sym (accepted-refused (r .refusal) _ (refuses-some (r .refusal) h)))
 
   module _ (n : r .refusal ≡ Nothing) where
     pub measure-length : (length js ≡ r .jobs → ⊥) → refusedAs Length ≡ measureOf t js

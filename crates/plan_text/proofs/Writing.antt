@@ -10,7 +10,7 @@ use lib.ListN.{length, getD, take, drop, drop-of-length-le}
 use lib.Seq.{drop-cons, getD-take, length-take-le}
 use Rattle.text.specs.Text.{until, beyond}
 use Rattle.frame.specs.Sheet.{Sheet, Ranges}
-use Rattle.frame.specs.Run.{State, start, change, job, step, exactRun}
+use Rattle.frame.specs.Run.{State, start, step, exactRun}
 use Rattle.frame.specs.Demands.{figures}
 use Rattle.run.specs.Run.{stateOf}
 use Rattle.run.specs.declared.Run.{Run}
@@ -18,6 +18,7 @@ use Rattle.run.proofs.Small.{Small, small-start, small-step}
 use Rattle.sheet.specs.declared.Reading.{Reading}
 use Rattle.sheet.specs.Reading.{sheetOf}
 use Rattle.sheet.specs.Frame.{frameOf}
+use Rattle.step.proofs.Levels.{step-level}
 use Rattle.names.specs.Name.{skip, nameAt, nameOf}
 use Rattle.names.proofs.Name.{name-some}
 use Rattle.names.proofs.Forms.{skip-add}
@@ -75,10 +76,6 @@ module _ {t : List ℕ} {r : Reading} {levels old : List ℕ} {at : ℕ} {text :
   pub name-here : beyond 9 (until 10 (drop p t)) ≡ nameOf t i
   unfolding nameAt
   name-here = ap (λ (x : List ℕ). beyond 9 (until 10 x)) (g .reached) ∙ sym (name-some t i r e h)
-
-  step-level : (s : Sheet) (a : State) (j : ℕ) → (step s a j) .level ≡ j
-  unfolding step change job
-  step-level s a j = refl
 
   pub writing-next : (b : Run) (text' : List ℕ) (p' q' : ℕ) → getD levels i 0 < 8 → stateOf b ≡ step (frameOf r) (stateOf run) (getD levels i 0) →
       Wrote text q (jobLine (beyond 9 (until 10 (drop p t))) (b .level) (b .time) (b .energy) (b .temperature)) text' q' → q' ≤ q + 63 →

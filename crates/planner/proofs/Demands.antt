@@ -17,12 +17,12 @@ use Rattle.frame.specs.Plan.{frameOutcome}
 use Rattle.frame.specs.Table.{need}
 use Rattle.frame.proofs.Demand3.{frame-demand2, frame-demand3}
 use Rattle.sheet.specs.declared.Refusal.{Refusal}
-use Rattle.sheet.specs.declared.Refusal.the-variants.{Nothing, TooLong, Line, Form, Range, Hot, Trailing}
 use Rattle.sheet.specs.Reading.{numberOf, lineOf, fieldOf, sheetOf}
 use Rattle.sheet.specs.Frame.{frameOf}
 use Rattle.sheet.proofs.Ranges.{read-ranges}
 use Rattle.planner.specs.declared.Reply.{Reply}
-use Rattle.planner.specs.Answer.{Answer, refused, found, answerFor, accepted, answerOf, refusedAs, plannedAs, Answers}
+use Rattle.planner.proofs.Replies.{accepted-refused}
+use Rattle.planner.specs.Answer.{refused, found, answerFor, accepted, answerOf, refusedAs, plannedAs, Answers}
 use Rattle.planner.specs.Demands.{Enough, planIn, Fixed, Demand3, Demands}
 
 module _ {s : Sheet} {words bytes : ℕ} {part : List ℕ} {r : Reply} where
@@ -175,15 +175,6 @@ on-passed s ok n words words' bytes bytes' r a =
     ]
 
 -- ---- every sheet
-
-accepted-refused : (f : Refusal) (go : Answer) → ¬ (f ≡ Nothing) → accepted f go ≡ refused (numberOf f) (lineOf f) (fieldOf f)
-accepted-refused Nothing go h = absurd (h refl)
-accepted-refused TooLong go h = refl
-accepted-refused (Line line) go h = refl
-accepted-refused (Form line field) go h = refl
-accepted-refused (Range line field) go h = refl
-accepted-refused Hot go h = refl
-accepted-refused (Trailing line) go h = refl
 
 pub demands-hold : (sheet words words' bytes bytes' : List ℕ) (r : Reply) →
     Answers (answerOf sheet (length words) (length bytes)) words words' bytes bytes' r → Demands sheet (length words) (length bytes) bytes' r

@@ -7,8 +7,6 @@ use Prim.Native.Nat.{ℕ, zero, suc, _+_, _-_, _*_, _≤_, _<_, _^_}
 use native.Mathlib.Nat.{mul-le-mul, le-mul-of-pos-right}
 use native.Mathlib.Omega.{arith}
 use borrow.Author.Tests.{le-leb, lt-leb, lt-ltb, le-ltb}
-use types.Run.{OneOf, miss}
-use denote.Enum.Declared.{tagOf}
 use lib.ListN.{length, getD, take, drop, List·getD-append}
 use lib.Seq.{take-at}
 use Rattle.thermal.specs.Rounding.{ceilDiv}
@@ -28,7 +26,7 @@ use Rattle.sheet.specs.declared.Reading.{Reading}
 use Rattle.sheet.specs.declared.Refusal.{Refusal}
 use Rattle.sheet.specs.declared.Refusal.the-variants.{Nothing, TooLong, Line, Form, Range, Hot, Trailing}
 use Rattle.sheet.specs.Reading.{numberOf, lineOf, fieldOf, sheetOf}
-use Rattle.sheet.proofs.Refusal.{the-type}
+use Rattle.sheet.proofs.Apart.{Refuses, refuses-some}
 use Rattle.sheet.specs.Frame.{frameOf}
 use Rattle.step.specs.Store.{Stored}
 use Rattle.table.specs.declared.Frame.{Frame}
@@ -223,20 +221,16 @@ module _ {s : Sheet} (ok : Ranges s) {words words' bytes bytes' : List ℕ} wher
 
 -- ---- the order of the refusals
 
+pub accepted-refused : (f : Refusal) (go : Answer) → ¬ (f ≡ Nothing) → accepted f go ≡ refused (numberOf f) (lineOf f) (fieldOf f)
+accepted-refused Nothing go h = absurd (h refl)
+accepted-refused TooLong go h = refl
+accepted-refused (Line line) go h = refl
+accepted-refused (Form line field) go h = refl
+accepted-refused (Range line field) go h = refl
+accepted-refused Hot go h = refl
+accepted-refused (Trailing line) go h = refl
+
 module _ (sheet words bytes : List ℕ) (r : Reading) (e : r ≡ sheetOf sheet) (q : Reply) where
-  -- A refused sheet, as a match leaves it.
-  abbrev Refuses : Refusal → Type 0
-  Refuses f = OneOf (1 ∷ 2 ∷ 3 ∷ 4 ∷ 5 ∷ 6 ∷ []) (tagOf the-type f)
-
-  accepted-other : (f : Refusal) (go : Answer) → Refuses f → accepted f go ≡ refused (numberOf f) (lineOf f) (fieldOf f)
-  accepted-other Nothing go h = absurd (miss (1 ∷ 2 ∷ 3 ∷ 4 ∷ 5 ∷ 6 ∷ []) 0 tt h)
-  accepted-other TooLong go h = refl
-  accepted-other (Line line) go h = refl
-  accepted-other (Form line field) go h = refl
-  accepted-other (Range line field) go h = refl
-  accepted-other Hot go h = refl
-  accepted-other (Trailing line) go h = refl
-
   -- Nothing lent is written.
   turned-away : (number line field : ℕ) → answerOf sheet (length words) (length bytes) ≡ refused number line field → q ≡ refusedAs number line field →
       Answers (answerOf sheet (length words) (length bytes)) words words bytes bytes q
@@ -245,7 +239,7 @@ module _ (sheet words bytes : List ℕ) (r : Reading) (e : r ≡ sheetOf sheet) 
   pub answers-sheet : Refuses (r .refusal) → q ≡ refusedAs (numberOf (r .refusal)) (lineOf (r .refusal)) (fieldOf (r .refusal)) →
       Answers (answerOf sheet (length words) (length bytes)) words words bytes bytes q
   unfolding answerOf
-  answers-sheet h k = turned-away _ _ _ (rw (sym e) (accepted-other (r .refusal) _ h)) k
+  answers-sheet h k = turned-away _ _ _ (rw (sym e) (accepted-refused (r .refusal) _ (refuses-some (r .refusal) h))) k
 
   module _ (m : r .refusal ≡ Nothing) where
     passed : answerOf sheet (length words) (length bytes) ≡ answerFor (frameOf r) (length words) (length bytes)

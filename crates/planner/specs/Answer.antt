@@ -15,7 +15,7 @@ use Rattle.frame.specs.Table.{need, filled}
 use Rattle.sheet.specs.declared.Reading.{Reading}
 use Rattle.sheet.specs.declared.Refusal.{Refusal}
 use Rattle.sheet.specs.declared.Refusal.the-variants.{Nothing, TooLong, Line, Form, Range, Hot, Trailing}
-use Rattle.sheet.specs.Reading.{sheetOf}
+use Rattle.sheet.specs.Reading.{numberOf, lineOf, fieldOf, sheetOf}
 use Rattle.sheet.specs.Frame.{frameOf}
 use Rattle.planner.specs.declared.Reply.{Reply}
 
@@ -32,15 +32,19 @@ answerFor s words bytes =
     (cond (ltb words (need s)) (refused 8 0 0)
     (cond (ltb bytes s.jobs) (refused 9 0 0) (found s (frameOutcome s))))
 
--- What follows the reading of a sheet: its refusal of 1 to 6, and else what comes next.
+-- A sheet's refusal of 1 to 6, with what document 01 returns for it.
+abbrev pub turnedAway : Refusal → Answer
+turnedAway f = refused (numberOf f) (lineOf f) (fieldOf f)
+
+-- What follows the reading of a sheet: its refusal, and else what comes next.
 abbrev pub accepted : Refusal → Answer → Answer
 accepted Nothing go = go
-accepted TooLong go = refused 1 0 0
-accepted (Line line) go = refused 2 line 0
-accepted (Form line field) go = refused 3 line field
-accepted (Range line field) go = refused 4 line field
-accepted Hot go = refused 5 2 8
-accepted (Trailing line) go = refused 6 line 0
+accepted TooLong go = turnedAway TooLong
+accepted (Line line) go = turnedAway (Line line)
+accepted (Form line field) go = turnedAway (Form line field)
+accepted (Range line field) go = turnedAway (Range line field)
+accepted Hot go = turnedAway Hot
+accepted (Trailing line) go = turnedAway (Trailing line)
 
 -- The answer to a sheet, with a table of so many words and a part of so many bytes.
 unfoldable pub answerOf : List ℕ → ℕ → ℕ → Answer

@@ -2,3 +2,4 @@ pub mod Body
 pub mod Head
 pub mod Whole
 pub mod Ranges
+pub mod Apart

@@ -29,7 +29,7 @@ going-start s levels n st r e =
       rest = ap (λ (a : State). exactRun s a (take n levels)) e;
     }
 
-step-level : (s : Sheet) (a : State) (j : ℕ) → (step s a j) .level ≡ j
+pub step-level : (s : Sheet) (a : State) (j : ℕ) → (step s a j) .level ≡ j
 unfolding step change job
 step-level s a j = refl
 

@@ -17,7 +17,7 @@ use Rattle.frame.proofs.Table.{place-lt, energy-cell, temperature-cell, least-w
 use Rattle.run.specs.Run.{stateOf}
 use Rattle.run.specs.declared.Run.{Run}
 use Rattle.table.specs.declared.Frame.{Frame}
-use Rattle.table.specs.Table.{Axes, AtCell, placeFor, restBy, placeBy, restIn, Steps, Holds}
+use Rattle.table.specs.Table.{Axes, AtCell, placeFor, restBy, placeBy, restIn, Raises, Steps, Holds}
 
 -- ---- by the axes that the code has
 
@@ -143,22 +143,28 @@ module _ {s : Sheet} (ok : Ranges s) {t : List ℕ} where
 
 -- ---- the code of a look-up
 
+-- A run within the limits can be raised.
+pub raises : {s : Sheet} {f : Frame} → Axes s f → (b : Run) → b .energy ≤ s.energyBudget → b .temperature ≤ s.temperatureLimit → Raises f b
+raises x b u v =
+    omega (
+      arith,
+      u,
+      v,
+      x .energy-step,
+      x .temperature-step,
+      x .ranges .energyBudget,
+      x .ranges .temperatureLimit,
+      x .ranges .energyStep,
+      x .ranges .temperatureStep,
+    )
+
 -- A run within the limits that has a job to do is raised to a cell of the table.
 pub looks : {s : Sheet} {f : Frame} → Axes s f → (b : Run) → b .level < s.levels → b .energy ≤ s.energyBudget → b .temperature ≤ s.temperatureLimit →
     b .done < f .jobs → (Steps f b) × (placeBy f b < need s)
 unfolding need placeFor energyCells temperatureCells
 looks {s} {f} x b l u v d =
     let ok = x .ranges in (
-      record {
-        energy = omega (arith, u, ok .energyBudget);
-        temperature = omega (arith, v, ok .temperatureLimit);
-        energy-step = omega (arith, x .energy-step, ok .energyStep);
-        energy-step-most = omega (arith, x .energy-step, ok .energyStep);
-        temperature-step = omega (arith, x .temperature-step, ok .temperatureStep);
-        temperature-step-most = omega (arith, x .temperature-step, ok .temperatureStep);
-        energy-cells = omega (arith, x .energy-cells);
-        temperature-cells = omega (arith, x .temperature-cells);
-      },
+      record { raises = raises x b u v; energy-cells = omega (arith, x .energy-cells); temperature-cells = omega (arith, x .temperature-cells) },
       rw (place-by x b)
           (place-lt s (b .done) (b .level) _ _ l (energy-cell s ok (b .energy) u) (temperature-cell s ok (b .temperature) v) s.jobs (omega (arith, x .jobs))),
     )

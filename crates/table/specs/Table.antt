@@ -59,14 +59,18 @@ pub record AtCell (s : Sheet) (a : State) : Type 0 where
   pub energy : a.energy ≤ 4000000000
   pub temperature : a.temperature ≤ 39998
 
--- What finding a run's cell may rest on: steps and cells of at least 1, and figures that fit 32 bits.
-pub record Steps (f : Frame) (b : Run) : Type 0 where
+-- What raising a run may rest on, in 32 bits.
+pub record Raises (f : Frame) (b : Run) : Type 0 where
   pub energy : b .energy ≤ 2000000000
   pub temperature : b .temperature ≤ 2000000000
   pub energy-step : 1 ≤ f .«energy_step»
   pub energy-step-most : f .«energy_step» ≤ 2000000000
   pub temperature-step : 1 ≤ f .«temperature_step»
   pub temperature-step-most : f .«temperature_step» ≤ 2000000000
+
+-- What finding a run's cell may rest on: the run can be raised, and there are cells.
+pub record Steps (f : Frame) (b : Run) : Type 0 where
+  pub raises : Raises f b
   pub energy-cells : 1 ≤ f .«energy_cells»
   pub temperature-cells : 1 ≤ f .«temperature_cells»
 

@@ -8,18 +8,19 @@ use native.Mathlib.Omega.{arith}
 use lib.ListN.{length, set, take, drop, length-set, take-append-drop}
 use lib.Seq.{take-suc-set, drop-set-lt, drop-drop}
 use Rattle.thermal.specs.Rounding.{raise}
-use Rattle.thermal.proofs.Rounding.{raise-twice, raise-le, raise-warmest}
 use Rattle.frame.specs.Sheet.{Sheet, Ranges}
-use Rattle.frame.specs.Run.{State, fresh, raised, step}
+use Rattle.frame.specs.Run.{State, fresh, step}
 use Rattle.frame.specs.Plan.{leastOf, firstWithin, next, via, least, choice, plan}
 use Rattle.frame.specs.Demands.{infeasible}
+use Rattle.frame.proofs.Table.{energy-cell, temperature-cell}
 use Rattle.frame.proofs.Walk.{first-same, alike-cell, least-alike, plan-alike, Goes, goes}
 use Rattle.run.specs.Run.{stateOf}
 use Rattle.run.specs.declared.Run.{Run}
 use Rattle.table.specs.declared.Frame.{Frame}
 use Rattle.table.specs.Table.{Axes, AtCell, restBy, Holds}
+use Rattle.table.proofs.Filling.{at-cell}
 use Rattle.table.proofs.Lookup.{next-level, next-done, next-peak, next-cell, way-least}
-use Rattle.walk.specs.Walk.{Raises, Starts}
+use Rattle.walk.specs.Walk.{Starts}
 
 -- ---- the cell at which the walk stands
 
@@ -28,17 +29,9 @@ cellOf s b = fresh b.done b.level (raise s.energyStep b.energy) (raise s.tempera
 
 module _ {s : Sheet} (ok : Ranges s) where
   -- A state within the limits that has a job to do is raised to a cell.
-  pub at-cell : (b : State) → b.done < s.jobs → b.level < s.levels → b.energy ≤ s.energyBudget → b.temperature ≤ s.temperatureLimit → AtCell s (cellOf s b)
-  unfolding raised
-  at-cell b d l u v =
-      record {
-        anew = refl;
-        up = rw (raise-twice s.energyStep b.energy (ok .energyStep .low), raise-twice s.temperatureStep b.temperature (ok .temperatureStep .low)) refl;
-        done = d;
-        level = l;
-        energy = omega (arith, raise-le s.energyStep b.energy, ok .energyBudget, ok .energyStep .high);
-        temperature = raise-warmest s.temperatureStep b.temperature (ok .temperatureStep .low) (ok .temperatureStep .high) (omega (arith, ok .temperatureLimit));
-      }
+  raised-at : (b : State) → b.done < s.jobs → b.level < s.levels → b.energy ≤ s.energyBudget → b.temperature ≤ s.temperatureLimit → AtCell s (cellOf s b)
+  unfolding raise
+  raised-at b d l u v = at-cell s ok b.done b.level _ _ d l (energy-cell s ok b.energy u) (temperature-cell s ok b.temperature v)
 
   -- The level that the table gives is the plan's.
   pub chosen : (t : List ℕ) (a : State) (r : ℕ) → Holds s t (suc a.done) → a.done + suc r ≡ s.jobs → least s (suc r) a < infeasible →
@@ -54,20 +47,6 @@ module _ {s : Sheet} (ok : Ranges s) where
 -- ---- raising, by the axes that the code has
 
 module _ {s : Sheet} {f : Frame} (x : Axes s f) (b : Run) where
-  pub raises : b .energy ≤ s.energyBudget → b .temperature ≤ s.temperatureLimit → Raises f b
-  raises u v =
-      omega (
-        arith,
-        u,
-        v,
-        x .energy-step,
-        x .temperature-step,
-        x .ranges .energyBudget,
-        x .ranges .temperatureLimit,
-        x .ranges .energyStep,
-        x .ranges .temperatureStep,
-      )
-
   pub raised-cell : (c : State) → c ≡ fresh (b .done) (b .level) (raise (f .«energy_step») (b .energy)) (raise (f .«temperature_step») (b .temperature)) →
       c ≡ cellOf s (stateOf b)
   raised-cell c e = rw (← x .energy-step, ← x .temperature-step) e
@@ -86,7 +65,7 @@ pub record Going (s : Sheet) (start : State) (n : ℕ) (old part : List ℕ) (i 
 module _ {s : Sheet} (ok : Ranges s) where
   -- The cell to which the start is raised: it has the start's plan.
   pub starts-at : {start a : State} → Starts s start → a ≡ cellOf s start → AtCell s a
-  starts-at {start} w e = rw e (at-cell ok start (w .done) (w .level) (w .energy) (w .temperature))
+  starts-at {start} w e = rw e (raised-at ok start (w .done) (w .level) (w .energy) (w .temperature))
 
   pub starts-plan : (start : State) {a : State} (n : ℕ) → a ≡ cellOf s start → plan s n a ≡ plan s n start
   starts-plan start n e = rw e (sym (plan-alike s n (alike-cell s ok start)))
@@ -122,7 +101,7 @@ module _ {s : Sheet} (ok : Ranges s) where
           count = rw d (omega (arith, k, g .count));
           at = λ m.
               rw d
-              (at-cell ok b (omega (arith, k, g .count)) (rw (ap (λ (z : State). z.level) x ∙ next-level s a j) (w .level)) (rw x (w .energy)) (rw x (omega (arith, next-peak s a j, w .peak))));
+              (raised-at ok b (omega (arith, k, g .count)) (rw (ap (λ (z : State). z.level) x ∙ next-level s a j) (w .level)) (rw x (w .energy)) (rw x (omega (arith, next-peak s a j, w .peak))));
           alive = rw (d, ← least-alike s (n - (i + 1)) y, x) (w .alive);
           done =
               ap (λ (js : List ℕ). js ++ plan s (n - (i + 1)) c) (ap (λ (m : ℕ). take m (set part i j)) (add-one i) ∙ take-suc-set part i j (omega (arith, g .long)))

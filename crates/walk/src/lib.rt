@@ -9,8 +9,8 @@ ghost use Rattle.frame.specs.Plan.{plan};
 ghost use Rattle.frame.specs.Table.{need};
 ghost use Rattle.run.specs.Run.{stateOf};
 ghost use Rattle.step.specs.Store.{Stored};
-ghost use Rattle.table.specs.Table.{sheetBy, Axes, Holds};
-ghost use Rattle.walk.specs.Walk.{Raises, Starts};
+ghost use Rattle.table.specs.Table.{sheetBy, Axes, Raises, Holds};
+ghost use Rattle.walk.specs.Walk.{Starts};
 use run::Run;
 use table::Frame;
 

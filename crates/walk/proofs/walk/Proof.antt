@@ -11,8 +11,8 @@ use Rattle.run.specs.Run.{stateOf}
 use Rattle.step.proofs.Store.{rests}
 use Rattle.table.specs.declared.Choice.{Choice}
 use Rattle.table.specs.Table.{sheetBy}
-use Rattle.table.proofs.Lookup.{next-cell, next-peak}
-use Rattle.walk.proofs.Steps.{cellOf, raises, raised-cell, Going, starts-at, starts-plan, starts-way, going-start, going-level, going-next, going-end}
+use Rattle.table.proofs.Lookup.{raises, next-cell, next-peak}
+use Rattle.walk.proofs.Steps.{cellOf, raised-cell, Going, starts-at, starts-plan, starts-way, going-start, going-level, going-next, going-end}
 use Rattle.walk.proofs.walk.Statement.{statement}
 use Rattle.walk.proofs.walk.Tie as tie
 use Rattle.walk.proofs.walk.Reads as reads
