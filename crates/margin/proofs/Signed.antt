@@ -4,7 +4,7 @@ use mathlib.Core.Path.{_≡_, refl, sym, ap, _∙_}
 use Prim.Native.Nat.{ℕ, zero, suc, _+_, _-_, _^_, _≤_, _<_}
 use native.Mathlib.Decide.{decLt}
 use native.Mathlib.Omega.{arith}
-use lib.IntN.{pos, negsuc, subℕ, _-ℤ_}
+use lib.IntN.{pos, negsuc, negℤ, subℕ, _-ℤ_}
 use borrow.Author.Tests.{lt-ltb, le-ltb}
 use mir.Syntax.{w64}
 use mir.Val.{SFits, toZ, ofZ}
@@ -39,3 +39,15 @@ module _ (a b : ℕ) (h : a < 2 ^ 63) (g : b < 2 ^ 63) where
   -- The code's difference is the margin.
   pub margin-is : toZ w64 (ofZ w64 (toZ w64 a -ℤ toZ w64 b)) ≡ subℕ a b
   margin-is = toZ-ofZ margin-fits ∙ rw (toZ-pos w64 h, toZ-pos w64 g) (sub-is a b)
+
+-- Minus a natural.
+sub-zero : (k : ℕ) → subℕ 0 k ≡ negℤ (pos k)
+sub-zero zero = refl
+sub-zero (suc k) = let q : suc k - suc 0 ≡ k = omega arith in sub-above 0 (suc k) (omega arith) ∙ ap negsuc q
+
+module _ (k : ℕ) (h : k < 2 ^ 63) where
+  pub minus-fits : SFits w64 (pos 0 -ℤ toZ w64 k)
+  minus-fits = rw (toZ-pos w64 h, sub-is 0 k) (sub-fits 0 k (omega arith) h)
+
+  pub minus-is : toZ w64 (ofZ w64 (pos 0 -ℤ toZ w64 k)) ≡ negℤ (pos k)
+  minus-is = toZ-ofZ minus-fits ∙ rw (toZ-pos w64 h) (sub-is 0 k ∙ sub-zero k)

@@ -1,6 +1,7 @@
 ghost use mathlib.Core.Path.{_≡_};
+ghost use Prim.Native.Nat.{_≤_};
 ghost use lib.ListN.{length};
-ghost use Rattle.report.specs.Report.{answerIn, refusedAs, reportOf, partOf};
+ghost use Rattle.report.specs.Report.{answerIn, textLeast, refusedAs, reportOf, partOf};
 
 // A refusal's number, line and field, or the length of a plan's text.
 pub struct Report {
@@ -26,6 +27,7 @@ fn refuse(refusal: u32, line: usize, field: usize) -> Report
 pub fn write_plan(s: &[u8], text: &mut [u8]) -> Report
     ensures { λ q. ⌜ q ≡ reportOf (now (s .entry)) (length (now (text .entry))) (answerIn (now (s .entry))) ⌝ }
     ensures { λ q. ⌜ now (text .exit) ≡ partOf (now (s .entry)) (answerIn (now (s .entry))) (now (text .entry)) ⌝ }
+    ensures { λ q. ⌜ q .length ≤ textLeast ⌝ }
 {
     let mut table = [0u32; 16384];
     let mut levels = [0u8; 64];

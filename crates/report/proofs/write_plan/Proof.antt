@@ -101,7 +101,7 @@ same-length c = search needs
 returns-4 : tie.Need-returns-4
 returns-4 c =
     let e = c .before .before .before .before .before .read .ensures in
-    told-plan _ _ _ _ _ _ _ (plan-is (c .before .before .before .before .before .before)) (answerIn _) (told (c .before .before .before .before .before .before .before .before .before .before .before)) (answered (c .before .before .before .before .before .before .before .before .before .before .before)) (c .before .before .before .before .before .before .before .if3 .left) _ _ _ (read-wrote _ _ _ _ _ _ e (c .before .before .put-plan .ensures .0)) refl
+    told-plan _ _ _ _ _ _ _ (plan-is (c .before .before .before .before .before .before)) (answerIn _) (told (c .before .before .before .before .before .before .before .before .before .before .before)) (answered (c .before .before .before .before .before .before .before .before .before .before .before)) (c .before .before .before .before .before .before .before .if3 .left) _ _ _ (c .before .before .put-plan .ensures .1) (read-wrote _ _ _ _ _ _ e (c .before .before .put-plan .ensures .0)) refl
 
 pub write-plan-spec : {M : Type 1} → statement M
 write-plan-spec =

@@ -1,0 +1,84 @@
+-- What holds of every answer, by the ways to it: a sheet that is turned away, one of 7 to 9, and what is found.
+-- Assumes nothing.
+use mathlib.Core.Path.{_≡_, refl}
+use mathlib.Core.Bool.{Bool, true, false, cond}
+use mathlib.Core.List.{List}
+use Prim.Native.Nat.{ℕ, _≤_}
+use native.Mathlib.Omega.{arith}
+use lib.Dec.{ltb}
+use lib.ListN.{length}
+use Rattle.frame.specs.Sheet.{Sheet}
+use Rattle.frame.specs.Run.{start, exactRun}
+use Rattle.frame.specs.Demands.{Outcome, planned, noPlan}
+use Rattle.frame.specs.Demands as frame
+use Rattle.frame.specs.Limits.{tightened}
+use Rattle.frame.specs.Plan.{frameOutcome}
+use Rattle.frame.specs.Table.{need}
+use Rattle.frame.proofs.Run.{meets-peak}
+use Rattle.frame.proofs.Demand3.{frame-demand3}
+use Rattle.sheet.specs.declared.Refusal.{Refusal}
+use Rattle.sheet.specs.declared.Refusal.the-variants.{Nothing, TooLong, Line, Form, Range, Hot, Trailing}
+use Rattle.sheet.specs.Reading.{numberOf, sheetOf}
+use Rattle.sheet.specs.Frame.{frameOf}
+use Rattle.sheet.proofs.Ranges.{read-ranges}
+use Rattle.planner.specs.declared.Reply.{Reply}
+use Rattle.planner.specs.Answer.{Answer, refused, found, answerFor, turnedAway, accepted, answerOf, replyOf, PeakOf, tableOf, partOf, Answers}
+use Rattle.planner.specs.Demands.{Demands}
+use Rattle.planner.proofs.Demands.{demands-hold}
+
+module _ (P : Answer → Type 0) where
+  either : (b : Bool) (x y : Answer) → P x → P y → P (cond b x y)
+  either true x y h k = h
+  either false x y h k = k
+
+  reading : (f : Refusal) (go : Answer) → (1 ≤ numberOf f → numberOf f ≤ 6 → P (turnedAway f)) → (f ≡ Nothing → P go) → P (accepted f go)
+  reading Nothing go a h = h refl
+  reading TooLong go a h = a (omega arith) (omega arith)
+  reading (Line line) go a h = a (omega arith) (omega arith)
+  reading (Form line field) go a h = a (omega arith) (omega arith)
+  reading (Range line field) go a h = a (omega arith) (omega arith)
+  reading Hot go a h = a (omega arith) (omega arith)
+  reading (Trailing line) go a h = a (omega arith) (omega arith)
+
+  module _ (late : (n : ℕ) → 7 ≤ n → n ≤ 9 → P (refused n 0 0)) where
+    frame-ways : (s : Sheet) (words bytes : ℕ) → P (found s (frameOutcome s)) → P (answerFor s words bytes)
+    unfolding answerFor
+    frame-ways s words bytes h =
+        either (ltb 4194304 (need s)) _ _ (late 7 (omega arith) (omega arith))
+        (either (ltb words (need s)) _ _ (late 8 (omega arith) (omega arith))
+        (either (ltb bytes s.jobs) _ _ (late 9 (omega arith) (omega arith)) h))
+
+    pub answer-ways : (t : List ℕ) (words bytes : ℕ) →
+        (let f = (sheetOf t) .refusal in 1 ≤ numberOf f → numberOf f ≤ 6 → P (turnedAway f)) →
+        ((sheetOf t) .refusal ≡ Nothing → P (found (frameOf (sheetOf t)) (frameOutcome (frameOf (sheetOf t))))) → P (answerOf t words bytes)
+    unfolding answerOf
+    answer-ways t words bytes a h = reading ((sheetOf t) .refusal) _ a (λ e. frame-ways (frameOf (sheetOf t)) words bytes (h e))
+
+-- ---- the answer's own reply, with the peak of the plan's run
+
+abbrev pub peakOf : Answer → ℕ
+peakOf (refused number line field) = 0
+peakOf (found s (planned js)) = (exactRun s (start s) js) .peak
+peakOf (found s noPlan) = 0
+
+abbrev pub replyTo : Answer → Reply
+replyTo a = replyOf a (peakOf a)
+
+peak-found : (s : Sheet) (o : Outcome) → frame.Demand3 s (tightened s) s.jobs (start s) o → PeakOf (found s o) (peakOf (found s o))
+peak-found s (planned js) w = record { low = omega arith; high = meets-peak s _ _ js (start s) (omega arith) (w .meets) }
+peak-found s noPlan w = tt
+
+answers-itself : (a : Answer) (words bytes : List ℕ) → PeakOf a (peakOf a) → Answers a words (tableOf a words) bytes (partOf a bytes) (replyTo a)
+answers-itself (refused number line field) words bytes h = record { reply = refl; table = refl; part = refl; peak = h }
+answers-itself (found s (planned js)) words bytes h = record { reply = refl; table = refl; part = refl; peak = h }
+answers-itself (found s noPlan) words bytes h = record { reply = refl; table = refl; part = refl; peak = h }
+
+-- The demands hold of the answer itself, with any table and any part lent.
+pub answer-demands : (t words bytes : List ℕ) → let a = answerOf t (length words) (length bytes) in
+    Demands t (length words) (length bytes) (partOf a bytes) (replyTo a)
+answer-demands t words bytes =
+    let a = answerOf t (length words) (length bytes) in
+    demands-hold t words (tableOf a words) bytes (partOf a bytes) (replyTo a)
+    (answers-itself a words bytes
+    (answer-ways (λ x. PeakOf x (peakOf x)) (λ n l h. tt) t (length words) (length bytes) (λ l h. tt)
+    (λ e. let s = frameOf (sheetOf t) in peak-found s (frameOutcome s) (frame-demand3 s (read-ranges t e)))))
