@@ -1,7 +1,6 @@
 -- What a block of lines keeps of the store: every figure that is put there lies in the range that document 01 gives it.
 -- Assumes nothing.
 use mathlib.Core.Path.{_≡_, refl, _∙_}
-use mathlib.Core.Bool.{Bool, true, false, cond}
 use mathlib.Core.List.{List, _∷_}
 use Prim.Native.Nat.{ℕ, zero, suc, _+_, _*_, _≤_, _<_}
 use native.Mathlib.Decide.{decLt, ℕ-discrete}
@@ -16,17 +15,13 @@ use Rattle.rows.specs.Row.{Row, rowOf}
 use Rattle.rows.specs.declared.Fault.{Fault}
 use Rattle.rows.specs.declared.Fault.the-variants.{Sound, Shape, Form, Range}
 use Rattle.rows.proofs.Within.{faulty, malformed, shapeless, row-held}
+pub use Rattle.rows.proofs.Within.{cond-cases}
 use Rattle.lines.specs.declared.Kind.{Kind}
 use Rattle.lines.specs.declared.Kind.the-variants.{Level, Change, Work}
 use Rattle.lines.proofs.Lines.{put-length}
 use Rattle.lines.specs.Lines.{after, steadyRow, levelRow, changeRow, workRow, rowFor, put, placesOf, Found, blockFrom}
 
--- ---- what holds after a test, by the test's outcome
-
-pub cond-cases : {X : Type 0} (P : X → Type 0) (b : Bool) (x y : X) → (b ≡ true → P x) → (b ≡ false → P y) → P (cond b x y)
-cond-cases P true x y f g = f refl
-cond-cases P false x y f g = g refl
-
+-- What holds after a line, by the line's fault.
 pub after-cases : {X : Type 0} (P : X → Type 0) (f : Fault) (stop go : X) → ((f ≡ Sound → ⊥) → P stop) → (f ≡ Sound → P go) → P (after f stop go)
 after-cases P Sound stop go a b = b refl
 after-cases P Shape stop go a b = a shapeless

@@ -15,6 +15,11 @@ use Rattle.text.specs.Number.{isNumber, valueFrom}
 use Rattle.rows.specs.declared.Fault.the-variants.{Sound, Shape, Form, Range}
 use Rattle.rows.specs.Row.{Row, opens, numbersFrom, rowOf}
 
+-- What holds after a test, by the test's outcome.
+pub cond-cases : {X : Type 0} (P : X → Type 0) (b : Bool) (x y : X) → (b ≡ true → P x) → (b ≡ false → P y) → P (cond b x y)
+cond-cases P true x y f g = f refl
+cond-cases P false x y f g = g refl
+
 -- A row with a fault is not sound.
 pub faulty : (k : ℕ) → Range k ≡ Sound → ⊥
 faulty k e = let z : _≡_ {A = ℕ} 0 1 = cc in omega arith

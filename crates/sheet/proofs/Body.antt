@@ -2,20 +2,23 @@
 -- Assumes nothing.
 use mathlib.Core.Path.{_≡_, refl, ap, sym, _∙_}
 use mathlib.Core.List.{List}
-use Prim.Native.Nat.{ℕ, suc, _+_, _*_, _-_, _≤_, _<_}
+use Prim.Native.Nat.{ℕ, zero, suc, _+_, _*_, _-_, _≤_, _<_}
 use native.Mathlib.Omega.{arith}
 use lib.ListN.{length, drop}
-use Rattle.text.specs.Text.{until, part}
+use Rattle.text.specs.Text.{until, beyond, ahead, part}
 use Rattle.text.specs.Line.{LineAt}
 use Rattle.text.specs.declared.Line.{Line}
 use Rattle.text.proofs.Scanned.{line-part, line-ahead, line-missing, line-beyond}
 use Rattle.rows.specs.Row.{nameFault}
 use Rattle.rows.specs.declared.Fault.{Fault}
 use Rattle.rows.specs.declared.Fault.the-variants.{Sound, Shape}
+use Rattle.rows.proofs.Fields.{name-field}
 use Rattle.lines.specs.Lines.{Found, blockFrom, foundIn, Reads}
 use Rattle.lines.specs.declared.Kind.the-variants.{Level, Change, Work}
 use Rattle.lines.specs.declared.Stop.{Stop}
 use Rattle.lines.proofs.Lines.{Other, after-other}
+use Rattle.lines.proofs.Kept.{cond-cases, after-cases}
+use Rattle.lines.proofs.Places.{Placed, block-placed}
 use Rattle.sheet.specs.Body.{onward, changesFrom, jobsFrom, bodyFrom}
 
 -- ---- going on or stopping
@@ -195,3 +198,40 @@ module _ (s : List ℕ) (at m l resistance : ℕ) (old : List ℕ) (few : l ≤ 
           lines = omega (arith, u .lines, v .lines, w .lines);
           long = w .long;
         }
+
+-- ---- where the reading stops at the latest
+
+-- Lines that stop at line a at the latest, and those after them, if they are sound.
+onward-placed : (a most : ℕ) (f : Found) (go : List ℕ → ℕ → List ℕ → Found) → a ≤ most → Placed a f →
+    ((t : List ℕ) (ln : ℕ) (st : List ℕ) → ln ≤ a → Placed most (go t ln st)) → Placed most (onward f go)
+onward-placed a most f go h p q = after-cases (Placed most) (f .fault) f _ (λ o. omega (arith, p)) (λ s. q (f .rest) (f .line) (f .store) (p .line))
+
+module _ (l : ℕ) (few : l ≤ 8) (most : ℕ) where
+  -- The S lines of the next n levels left.
+  changes-placed : (n p : ℕ) (t : List ℕ) (ln : ℕ) (st : List ℕ) → ln + n * 8 ≤ most → Placed most (changesFrom l n p t ln st)
+  unfolding changesFrom
+  changes-placed zero p t ln st h = omega arith
+  changes-placed (suc n) p t ln st h =
+      onward-placed (ln + l) most _ _ (omega arith) (block-placed (Change p) (p * 8) l 0 t ln st)
+      (λ u k store q. changes-placed n (p + 1) u k store (omega arith))
+
+  -- The lines of the next n jobs.
+  jobs-placed : (n i : ℕ) (t : List ℕ) (ln : ℕ) (st : List ℕ) → ln + n * 9 ≤ most → Placed most (jobsFrom l n i t ln st)
+  unfolding jobsFrom
+  jobs-placed zero i t ln st h = omega arith
+  jobs-placed (suc n) i t ln st h =
+      let name = nameFault (until 10 t) in
+      cond-cases (Placed most) (ahead 10 t) _ _
+      (λ a. after-cases (Placed most) name _ _ (λ o. omega (arith, name-field (until 10 t)))
+      (λ s. onward-placed (ln + 1 + l) most _ _ (omega arith) (block-placed Work (i * 8) l 0 (beyond 10 t) (ln + 1) st)
+      (λ u k store q. jobs-placed n (i + 1) u k store (omega arith))))
+      (λ a. omega arith)
+
+-- All of them: the last line is line 2 + 8 + 64 + 64 * 9 at most, and bytes after it are on the next.
+pub body-placed : (m l resistance : ℕ) (t st : List ℕ) → m ≤ 64 → l ≤ 8 → Placed 651 (bodyFrom m l resistance t 3 st)
+unfolding bodyFrom
+body-placed m l resistance t st jobs few =
+    onward-placed 75 651 _ _ (omega arith)
+    (onward-placed (3 + l) 75 _ _ (omega arith) (block-placed (Level resistance) 0 l 0 t 3 st)
+    (λ u k store q. changes-placed l few 75 l 0 u k store (omega arith)))
+    (λ u k store q. jobs-placed l few 651 m 0 u k store (omega arith))

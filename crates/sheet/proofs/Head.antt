@@ -18,6 +18,7 @@ use Rattle.rows.specs.Row.{Row, opens, numbersFrom}
 use Rattle.rows.specs.declared.Fault.{Fault}
 use Rattle.rows.specs.declared.Fault.the-variants.{Sound, Shape, Form, Range}
 use Rattle.rows.proofs.Row.{opens-beyond}
+use Rattle.rows.proofs.Fields.{FieldLe, numbers-field}
 use Rattle.rows.proofs.Within.{Held, faulty, malformed, shapeless, numbers-held}
 use Rattle.lines.specs.Lines.{after, Found}
 use Rattle.lines.proofs.Kept.{cond-cases, after-cases}
@@ -126,6 +127,16 @@ head-held line e =
     let h = numbers-held headLos (headHis 0) 2 0 (beyond 9 line) (replicate 10 0) (omega arith) (b .0) in
     let g = numbers-held headLos (headHis (getD (two .values) 1 0 - 1)) 8 2 (two .rest) (two .values) (omega (arith, h .long)) (ap (λ (r : Row). r .fault) (sym q) ∙ e) in
     rw q (head-both (getD (two .values) 1 0 - 1) (two .values) (row .values) (h .long) h refl g)
+
+-- The field of a fault.
+pub head-field : (line : List ℕ) → FieldLe (headRow line)
+unfolding headRow
+head-field line =
+    let two = numbersFrom headLos (headHis 0) 2 0 (beyond 9 line) (replicate 10 0) in
+    cond-cases FieldLe (opens 72 10 line) _ _
+    (λ a. after-cases FieldLe (two .fault) _ _ (λ o. numbers-field headLos (headHis 0) 2 0 _ _ (omega arith))
+    (λ s. numbers-field headLos _ 8 2 _ _ (omega arith)))
+    (λ a. omega arith)
 
 -- ---- from line 2 on, and from line 1 on
 

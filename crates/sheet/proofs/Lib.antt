@@ -3,3 +3,4 @@ pub mod Head
 pub mod Whole
 pub mod Ranges
 pub mod Apart
+pub mod Places

@@ -1,0 +1,43 @@
+-- Where the reading of a block of lines stops: its line, and the field of its fault.
+-- Assumes nothing.
+use mathlib.Core.List.{List, _∷_}
+use Prim.Native.Nat.{ℕ, zero, suc, _+_, _≤_}
+use native.Mathlib.Omega.{arith}
+use lib.Dec.{ltb}
+use lib.ListN.{getD, replicate}
+use Rattle.text.specs.Text.{until, beyond, ahead}
+use Rattle.thermal.specs.Thermal.{steadyState}
+use Rattle.rows.specs.Row.{rowOf}
+use Rattle.rows.proofs.Fields.{fieldIn, FieldLe, row-field}
+use Rattle.lines.specs.declared.Kind.{Kind}
+use Rattle.lines.specs.declared.Kind.the-variants.{Level, Change, Work}
+use Rattle.lines.specs.Lines.{steadyRow, levelRow, changeRow, workRow, rowFor, put, Found, blockFrom}
+use Rattle.lines.proofs.Kept.{cond-cases, after-cases}
+
+-- A line of a kind.
+for-field : (kind : Kind) (j : ℕ) (line : List ℕ) → FieldLe (rowFor kind j line)
+unfolding rowFor levelRow steadyRow changeRow workRow
+for-field (Level resistance) j line =
+    let row = rowOf 76 1 (replicate 10 0) (100000 ∷ replicate 9 0) line in
+    let h = row-field 76 1 (replicate 10 0) (100000 ∷ replicate 9 0) line (omega arith) in
+    after-cases FieldLe (row .fault) _ _ (λ o. h)
+    (λ s. cond-cases FieldLe (ltb 20000 (steadyState (getD (row .values) 0 0) resistance)) _ _ (λ c. omega arith) (λ c. h))
+for-field (Change p) j line = row-field 83 2 _ _ line (omega arith)
+for-field Work j line = row-field 66 3 _ _ line (omega arith)
+
+-- The reading stopped at line `most` at the latest, with a fault of field 11 at the latest.
+pub record Placed (most : ℕ) (f : Found) : Type 0 where
+  pub line : f .line ≤ most
+  pub field : fieldIn (f .fault) ≤ 11
+
+-- A block of n lines from line ln on.
+pub block-placed : (kind : Kind) (b n j : ℕ) (t : List ℕ) (ln : ℕ) (st : List ℕ) → Placed (ln + n) (blockFrom kind b n j t ln st)
+unfolding blockFrom
+block-placed kind b zero j t ln st = omega arith
+block-placed kind b (suc n) j t ln st =
+    let row = rowFor kind j (until 10 t) in
+    let P = Placed (ln + suc n) in
+    cond-cases P (ahead 10 t) _ _
+    (λ a. after-cases P (row .fault) _ _ (λ o. omega (arith, for-field kind j (until 10 t)))
+    (λ s. omega (arith, block-placed kind b n (j + 1) (beyond 10 t) (ln + 1) (put kind (b + j) (row .values) st))))
+    (λ a. omega arith)
