@@ -1,10 +1,15 @@
 """Writes what the program `cases` is run on (crates/cases/stdin) and what it must print (crates/cases/stdout).
 
-The answers come from a reader and a run of their own, written from document 01 and not from the proved code.
+The answers come from a reader, a run and a planner of their own, written from document 01 and not from the proved code.
 Run it from the repository's top: python3 tests/cases.py
 """
+from functools import lru_cache
+
 HEAD = [(1, 64), (1, 8), None, (0, 2 * 10**9), (0, 2 * 10**9), (0, 20000), (0, 20000), (0, 20000), (1, 2 * 10**9), (1, 20000)]
 COST = (0, 10**7)
+NO_WAY = 4294967295
+# The words and the bytes that the program has to lend, and what a byte holds that is not written: no level.
+WORDS, BYTES, UNWRITTEN = 16384, 64, 9
 SHEET = b"""V	1
 H	2	2	0	50	100	2500	1000	2000	10	100
 L	10000
@@ -89,22 +94,108 @@ def read(sheet):
     return head, powers, changes, work
 
 
+def ceil_div(x, n):
+    return -(-x // n)
+
+
+class Frame:
+    """The figures of a sheet, and both runs over them."""
+
+    def __init__(self, sheet):
+        head, powers, self.changes, work = read(sheet)
+        self.jobs, self.levels, self.start_level, self.deadline, self.energy_budget = head[:5]
+        self.temperature_limit, self.start_temperature, resistance, self.energy_step, self.temperature_step = head[5:]
+        self.steady = [steady(power, resistance) for power in powers]
+        self.work = [figures for _, figures in work]
+
+    def after(self, i, before, energy, temperature, level):
+        """The time of job i at a level, and the energy and the temperature at its end."""
+        change, job = self.changes[before][level], self.work[i][level]
+        temperature = ceil_div(job[2] * temperature + (65536 - job[2]) * self.steady[level], 65536)
+        return change[0] + job[0], energy + change[1] + job[1], temperature
+
+    def run(self, levels):
+        """Time, energy and temperature of a list's exact run, and its highest temperature at a job end."""
+        before, time, energy, temperature, highest = self.start_level, 0, 0, self.start_temperature, 0
+        for i, level in enumerate(levels):
+            taken, energy, temperature = self.after(i, before, energy, temperature, level)
+            before, time, highest = level, time + taken, max(highest, temperature)
+        return time, energy, temperature, highest
+
+    def cells(self):
+        """The cells of the table's two axes."""
+        return self.energy_cell(self.energy_budget) + 1, self.temperature_cell(self.temperature_limit) + 1
+
+    def energy_cell(self, energy):
+        return ceil_div(energy, self.energy_step)
+
+    def temperature_cell(self, temperature):
+        return ceil_div(temperature, self.temperature_step)
+
+    def need(self):
+        a, b = self.cells()
+        return self.jobs * self.levels * a * b
+
+    def ways(self, i, before, a, b):
+        """The levels at which job i can be done from a cell, each with its time and the cell after it."""
+        for level in range(self.levels):
+            time, energy, temperature = self.after(i, before, a * self.energy_step, b * self.temperature_step, level)
+            if energy <= self.energy_budget and temperature <= self.temperature_limit:
+                yield level, time, self.energy_cell(energy), self.temperature_cell(temperature)
+
+    def plan(self):
+        """The words of the table, and the plan, or None."""
+
+        @lru_cache(None)
+        def least(i, before, a, b):
+            if i == self.jobs:
+                return 0
+            return min([NO_WAY] + [time + least(i + 1, level, *cell) for level, time, *cell in self.ways(i, before, a, b)])
+
+        energies, temperatures = map(range, self.cells())
+        places = [(i, p) for i in range(self.jobs) for p in range(self.levels)]
+        table = [least(i, p, a, b) for i, p in places for a in energies for b in temperatures]
+        at = self.start_level, 0, self.temperature_cell(self.start_temperature)
+        left, levels = least(0, *at), []
+        if left > self.deadline:
+            return table, None
+        for i in range(self.jobs):
+            for level, time, *cell in self.ways(i, *at):
+                if time + least(i + 1, level, *cell) == left:
+                    break
+            left, at = left - time, (level, *cell)
+            levels.append(level)
+        return table, levels
+
+
 def measure(sheet, levels):
     """The three margins of a list of levels."""
-    head, powers, changes, work = read(sheet)
-    if len(levels) != head[0]:
+    f = Frame(sheet)
+    if len(levels) != f.jobs:
         raise Refused(11, 0, 0)
     for place, level in enumerate(levels):
-        if level >= head[1]:
+        if level >= f.levels:
             raise Refused(12, 0, place)
-    before, temperature, time, energy, highest = head[2], head[6], 0, 0, 0
-    for (_, figures), level in zip(work, levels):
-        change, job = changes[before][level], figures[level]
-        time += change[0] + job[0]
-        energy += change[1] + job[1]
-        temperature = -(-(job[2] * temperature + (65536 - job[2]) * steady(powers[level], head[7])) // 65536)
-        highest, before = max(highest, temperature), level
-    return head[3] - time, head[4] - energy, head[5] - highest
+    time, energy, _, highest = f.run(levels)
+    return f.deadline - time, f.energy_budget - energy, f.temperature_limit - highest
+
+
+def plan(sheet, words, size):
+    """The planner's refusal, the figures of its plan, the plan's levels, and the words that it writes to the table."""
+    try:
+        f = Frame(sheet)
+        if f.need() > 4194304:
+            raise Refused(7, 0, 0)
+        if f.need() > words:
+            raise Refused(8, 0, 0)
+        if f.jobs > size:
+            raise Refused(9, 0, 0)
+    except Refused as e:
+        return e.args, (0, 0, 0), (), []
+    table, levels = f.plan()
+    if levels is None:
+        return (10, 0, 0), (0, 0, 0), (), table
+    return (0, 0, 0), f.run(levels)[:3], tuple(levels), table
 
 
 def names(sheet):
@@ -115,13 +206,19 @@ def names(sheet):
     return [work[i][0] if i < len(work) else b"" for i in (0, 1, 64)]
 
 
-def answer(note, sheet, levels):
+def answer(note, sheet, levels, words, size):
     refusal, margins = (0, 0, 0), (0, 0, 0)
     try:
         margins = measure(sheet, levels)
     except Refused as e:
         refusal = e.args
-    return b"\t".join([note] + [b"%d" % x for x in (*refusal, *margins)] + names(sheet)) + b"\n"
+    measured = [b"%d" % x for x in (*refusal, *margins)]
+    refusal, figures, written, table = plan(sheet, words, size)
+    part = b"".join(b"%d" % x for x in written).ljust(BYTES, b"%d" % UNWRITTEN)
+    # each word counts once for each place from its own to the end of the table
+    weighed = sum(word * (WORDS - place) for place, word in enumerate(table))
+    answered = [b"%d" % x for x in (*refusal, *figures)] + [part, b"%d" % weighed]
+    return b"\t".join([note, *measured, *names(sheet), *answered]) + b"\n"
 
 
 def changed(line, field, value, sheet=SHEET):
@@ -132,26 +229,43 @@ def changed(line, field, value, sheet=SHEET):
     return b"\n".join(lines)
 
 
-def full(jobs, levels, name, time):
-    """A sheet whose other figures are at their upper ends."""
+def full(jobs, levels, name, time, cost=10**7):
+    """A sheet whose other figures are at their upper ends, with a cost of its changes and jobs."""
     head = b"V\t1\nH\t%d\t%d\t%d\t2000000000\t2000000000\t20000\t20000\t2000\t2000000000\t20000\n" % (jobs, levels, levels - 1)
-    change = lambda p, j: b"S\t0\t0\n" if p == j else b"S\t10000000\t10000000\n"
+    change = lambda p, j: b"S\t0\t0\n" if p == j else b"S\t%d\t%d\n" % (cost, cost)
     changes = b"".join(change(p, j) for p in range(levels) for j in range(levels))
-    return head + b"L\t100000\n" * levels + changes + (b"J\t%s\n" % name + b"B\t%d\t10000000\t65536\n" % time * levels) * jobs
+    return head + b"L\t100000\n" * levels + changes + (b"J\t%s\n" % name + b"B\t%d\t%d\t65536\n" % (time, cost) * levels) * jobs
+
+
+def with_head(sheet, **figures):
+    """The sheet with some figures of its H line changed, each under document 01's letter."""
+    for letter, value in figures.items():
+        sheet = changed(2, {"D": 5, "W": 6, "C": 7, "start": 8, "R": 9, "g": 10, "h": 11}[letter], value, sheet)
+    return sheet
+
+
+def one_job(power, resistance, start, decay):
+    """A sheet with one job and one level."""
+    return changed(6, 4, decay, changed(3, 2, power, with_head(full(1, 1, b"a", 1, 0), start=start, R=resistance)))
+
+
+def long_frame():
+    """64 jobs whose plan is bound by the deadline, the energy budget and the temperature limit."""
+    head = b"V\t1\nH\t64\t2\t1\t1270\t20\t600\t100\t1000\t1\t120\nL\t1000\nL\t10000\nS\t0\t0\nS\t3\t0\nS\t1\t0\nS\t0\t0\n"
+    jobs = b""
+    for i in range(64):
+        jobs += b"J\tjob%d\nB\t%d\t%d\t%d\n" % (i, 20 + i % 7, i % 16 // 15, 20000 + 300 * i) + b"B\t%d\t1\t52000\n" % (9 + i * i % 11)
+    return head + jobs
 
 
 def printed():
-    """The cases of document 01, and lists on its sheet."""
+    """Lists on document 01's sheet."""
     for levels in ((0, 1), (1, 0), (0, 0), (1, 1)):
         yield "the sheet, levels %d %d" % levels, SHEET, levels
-    yield "D 47, W 63, C 2750: all margins 0", changed(2, 5, 47, changed(2, 6, 63, changed(2, 7, 2750))), (0, 1)
-    yield "D 46, W 62, C 2749: all margins -1", changed(2, 5, 46, changed(2, 6, 62, changed(2, 7, 2749))), (0, 1)
-    yield "empty sheet", b"", (0, 1)
-    yield "version 9", changed(1, 2, 9), (0, 1)
-    yield "start 2501", changed(2, 8, 2501), (0, 1)
+    yield "D 47, W 63, C 2750: all margins 0", with_head(SHEET, D=47, W=63, C=2750), (0, 1)
+    yield "D 46, W 62, C 2749: all margins -1", with_head(SHEET, D=46, W=62, C=2749), (0, 1)
     yield "start 2500", changed(2, 8, 2500), (0, 1)
     yield "decay 65536: T stays 1000", SHEET.replace(b"32768", b"65536"), (0, 1)
-    yield "two equal levels, free changes", full(1, 2, b"a", 1).replace(b"S\t10000000\t10000000", b"S\t0\t0"), (1,)
     for note, levels in (("no list", ()), ("a list of 1", (0,)), ("a list of 3", (0, 1, 0)), ("a list of 3 with level 9", (9, 0, 0))):
         yield note, SHEET, levels
     for levels in ((2, 0), (0, 2), (2, 2), (255, 255)):
@@ -212,14 +326,71 @@ def lines():
         yield "cut at %d" % size, SHEET[:size], (0, 1)
 
 
+def planned():
+    """The list of document 01, the borders of lent memory, and 64 jobs: with the words and bytes lent and the answer, as printed there."""
+    same, slow = ((1, 0), 49, 76, 2250), ((0, 0), 58, 45, 1750)
+    for note, sheet, want in (
+        ("D 49", with_head(SHEET, D=49), same),
+        ("D 48", with_head(SHEET, D=48), (10, 0, 0)),
+        ("C 2499", with_head(SHEET, C=2499), (10, 0, 0)),
+        ("C 2499 and D 58", with_head(SHEET, C=2499, D=58), slow),
+        ("h 300", with_head(SHEET, h=300), (10, 0, 0)),
+        ("h 1000", with_head(SHEET, h=1000), same),
+        ("W 78", with_head(SHEET, W=78), same),
+        ("W 77", with_head(SHEET, W=77), (10, 0, 0)),
+        ("W 76 and g 1", with_head(SHEET, W=76, g=1), same),
+        ("empty sheet", b"", (2, 1, 0)),
+        ("version 9", changed(1, 2, 9), (4, 1, 2)),
+        ("start 2501", with_head(SHEET, start=2501), (5, 2, 8)),
+    ):
+        yield note, sheet, (1, 0), WORDS, BYTES, want
+    yield "steady rise of P 1500, R 1830", one_job(1500, 1830, 0, 0), (0,), WORDS, BYTES, ((0,), 1, 0, 275)
+    yield "decay 1, T 1, steady rise 0", one_job(0, 0, 1, 1), (0,), WORDS, BYTES, ((0,), 1, 0, 1)
+    yield "decay 65536, T 1234", one_job(10000, 2000, 1234, 65536), (0,), WORDS, BYTES, ((0,), 1, 0, 1234)
+    yield "two equal levels, free changes", full(1, 2, b"a", 1, 0), (1,), WORDS, BYTES, ((0,), 1, 0, 20000)
+    large = with_head(full(64, 8, b"x", 1, 0), start=0, W=63, g=1, C=127, h=1)
+    assert Frame(SHEET).need() == 1144 and Frame(large).need() == 4194304
+    yield "need 4194304", large, [7] * 64, WORDS, BYTES, (8, 0, 0)
+    yield "need 4194304 with W 64", with_head(large, W=64), [7] * 64, WORDS, BYTES, (7, 0, 0)
+    for words, size, want in (
+        (1144, 64, same),
+        (1143, 64, (8, 0, 0)),
+        (0, 64, (8, 0, 0)),
+        (16384, 2, same),
+        (16384, 1, (9, 0, 0)),
+        (16384, 0, (9, 0, 0)),
+        (1144, 2, same),
+        (1143, 1, (8, 0, 0)),
+    ):
+        yield "words %d, bytes %d" % (words, size), SHEET, (1, 0), words, size, want
+    yield "D 48, bytes 1: 9 before 10", with_head(SHEET, D=48), (1, 0), WORDS, 1, (9, 0, 0)
+    frame = long_frame()
+    levels = tuple(Frame(frame).plan()[1])
+    yield "64 jobs", frame, levels, WORDS, BYTES, (levels, *Frame(frame).run(levels)[:3])
+    yield "64 jobs, bytes 63", frame, levels, WORDS, 63, (9, 0, 0)
+
+
+def check_planned(cases):
+    """Holds the planner here to the answers: a plan's levels, time, energy and temperature, or a refusal."""
+    for note, sheet, _, words, size, want in cases:
+        refusal, figures, levels, _ = plan(sheet, words, size)
+        assert (refusal if any(refusal) else (levels, *figures)) == want, note
+
+
 def main():
-    cases = [(note.encode(), sheet, bytes(levels)) for part in (printed, edges, forms, lines) for note, sheet, levels in part()]
-    assert not any(b"\f" in part for case in cases for part in case)
-    data = b"".join(part + b"\f" for case in cases for part in case)
-    with open("crates/cases/stdin", "wb") as out:
-        out.write(data)
-    with open("crates/cases/stdout", "wb") as out:
-        out.write(b"".join(answer(*case) for case in cases))
+    held = list(planned())
+    check_planned(held)
+    cases = [(*case, WORDS, BYTES) for group in (printed, edges, forms, lines) for case in group()] + [case[:-1] for case in held]
+    data = out = b""
+    for note, sheet, levels, words, size in cases:
+        parts = note.encode(), sheet, bytes(levels), b"%d" % words, b"%d" % size
+        assert not any(b"\f" in part for part in parts)
+        data += b"".join(part + b"\f" for part in parts)
+        out += answer(*parts[:3], words, size)
+    with open("crates/cases/stdin", "wb") as file:
+        file.write(data)
+    with open("crates/cases/stdout", "wb") as file:
+        file.write(out)
     print(len(cases), "cases,", len(data), "bytes")
 
 

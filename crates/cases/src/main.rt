@@ -1,13 +1,23 @@
-// Runs the measuring call and the job names on the cases of standard input, and prints a line for each case.
+// Runs the measuring call, the job names and the planner on the cases of standard input, and prints a line for each case.
 //
-// A case is three parts, each ended by a form feed: a note, a sheet, and a list of levels, a byte each. Its line has the note,
-// the refusal's number, line and field, the three margins, and the names of jobs 0, 1 and 64.
+// A case is five parts, each ended by a form feed: a note, a sheet, a list of levels, a byte each, and how many words and bytes
+// to lend to the planner. Its line has the note; of the measuring call the refusal's number, line and field and the three margins;
+// the names of jobs 0, 1 and 64; of the planner the refusal's number, line and field and the plan's time, energy and final
+// temperature; and what it left in memory: the bytes of the part as digits, and the table's words in one figure.
 ghost use Prim.Native.Nat.{_≤_, _<_};
 ghost use lib.ListN.{length};
 use libc::STDOUT_FILENO;
 use measure::Measured;
 use measure::Refused;
+use planner::Reply;
 use sheet::Refusal;
+use std::num;
+use text::Field;
+
+// The memory of which the first words and bytes are lent to the planner.
+type Table = [u32; 16384];
+
+type Part = [u8; 64];
 
 // Writes a tab and a number.
 fn print_number(n: u64) {
@@ -66,13 +76,77 @@ fn print_name(s: &[u8], i: usize) {
     io::write_all(STDOUT_FILENO, names::job_name(s, i));
 }
 
+// Writes the planner's reply but for its peak, which document 01 leaves open.
+fn print_reply(q: Reply) {
+    print_three(q.refusal as u64, q.line, q.field);
+    print_number(q.time);
+    print_number(q.energy);
+    print_number(q.temperature);
+}
+
+// Writes a tab and the part: a level as its digit, 9 for a byte that is not written.
+fn print_part(part: &Part) {
+    let mut digits = [0u8; 64];
+    let mut i: usize = 0;
+    while i < 64 {
+        digits[i] = num::wrapping_add_u8(part[i], 48);
+        i += 1;
+    }
+    io::write_all(STDOUT_FILENO, b"\t");
+    io::write_all(STDOUT_FILENO, &digits);
+}
+
+fn wide(n: u32) -> u64 {
+    n as u64
+}
+
+// One figure for the whole table: each word counts once for each place from its own to the end. At most 2 ^ 60, so nothing wraps.
+fn weigh(table: &Table) -> u64 {
+    let mut sum: u64 = 0;
+    let mut weighed: u64 = 0;
+    let mut i: usize = 0;
+    while i < 16384 {
+        sum = num::wrapping_add_u64(sum, wide(table[i]));
+        weighed = num::wrapping_add_u64(weighed, sum);
+        i += 1;
+    }
+    weighed
+}
+
+// Plans a sheet with the first words of a table of zeros and the first bytes of a part that holds no levels, and writes the reply
+// and what the whole table and part then hold.
+fn print_plan(s: &[u8], words: usize, bytes: usize)
+    requires { ⌜ (words ≤ 16384) × (bytes ≤ 64) ⌝ }
+{
+    let mut table: Table = [0; 16384];
+    let mut part: Part = [9; 64];
+    print_reply(planner::plan(s, &mut table[..words], &mut part[..bytes]));
+    print_part(&part);
+    print_number(weigh(&table));
+}
+
+// The number that a part of a case is, at most `most`; 0 where it is none.
+fn number_in(s: &[u8], most: usize) -> usize
+    ensures { λ r. ⌜ r ≤ most ⌝ }
+{
+    let f = text::read_number(s, 0, s.len());
+    let Field::Number(n, _) = f else {
+        return 0;
+    };
+    if n < most as u64 {
+        return n as usize;
+    }
+    most
+}
+
 // Writes the line of one case.
-fn print_case(note: &[u8], s: &[u8], levels: &[u8]) {
+fn print_case(note: &[u8], s: &[u8], levels: &[u8], words: &[u8], bytes: &[u8]) {
     io::write_all(STDOUT_FILENO, note);
     print_measured(measure::measure(s, levels));
     print_name(s, 0);
     print_name(s, 1);
     print_name(s, 64);
+    print_plan(s, number_in(words, 16384), number_in(bytes, 64));
     io::write_all(STDOUT_FILENO, b"\n");
 }
 
@@ -93,12 +167,26 @@ fn run_case(s: &[u8], at: usize) -> usize
     if c == s.len() {
         return c + 1;
     }
-    print_case(&s[at..a], &s[a + 1..b], &s[b + 1..c]);
-    c + 1
+    let d = text::find(s, c + 1, s.len(), 12);
+    if d == s.len() {
+        return d + 1;
+    }
+    let e = text::find(s, d + 1, s.len(), 12);
+    if e == s.len() {
+        return e + 1;
+    }
+    print_case(
+        &s[at..a],
+        &s[a + 1..b],
+        &s[b + 1..c],
+        &s[c + 1..d],
+        &s[d + 1..e],
+    );
+    e + 1
 }
 
 fn main() {
-    let mut input = [0u8; 131072];
+    let mut input = [0u8; 196608];
     let n = io::read_full(0, &mut input);
     let s = &input[..n];
     let mut at: usize = 0;
