@@ -23,19 +23,17 @@ use Rattle.planner.specs.Answer.{partOf as levelsOf}
 use Rattle.planner.specs.Demands.{planIn, Demands}
 use Rattle.planner.proofs.Ways.{replyTo, answer-demands}
 use Rattle.plan_text.specs.Text.{planText}
-use Rattle.report.specs.declared.Report.{Report}
 use Rattle.report.specs.Report.{answerIn, reportOf, partOf}
 use Rattle.report.proofs.Told.{Told, answer-told, told-best}
-use Rattle.logger.specs.Logger.{minus, bytesOrRefusal, refusalIn, zeroOrRefusal, ByPlanner}
+use Rattle.logger.specs.Logger.{minus, bytesOrRefusal, textNumber, refusalIn, planNumber, ByPlanner}
 
 -- ---- the code's numbers
 
-module _ (r : Report) where
-  pub number-plan : r .refusal ≡ 0 → r .length ≤ 4096 → toZ w64 (r .length) ≡ bytesOrRefusal r
-  number-plan e h = rw (eq-eqb (r .refusal) 0 e) (toZ-pos w64 (omega arith))
+pub number-bytes : (refusal bytes : ℕ) → refusal ≡ 0 → bytes ≤ 4096 → toZ w64 bytes ≡ bytesOrRefusal refusal bytes
+number-bytes refusal bytes e h = rw (eq-eqb refusal 0 e) (toZ-pos w64 (omega arith))
 
-  pub number-refused : ¬ (r .refusal ≡ 0) → r .refusal < 2 ^ 32 → toZ w64 (ofZ w64 (pos 0 -ℤ toZ w64 (r .refusal))) ≡ bytesOrRefusal r
-  number-refused n h = rw (ne-eqb (r .refusal) 0 n) (minus-is (r .refusal) (omega arith))
+pub number-refusal : (refusal bytes : ℕ) → ¬ (refusal ≡ 0) → refusal < 2 ^ 32 → toZ w64 (ofZ w64 (pos 0 -ℤ toZ w64 refusal)) ≡ bytesOrRefusal refusal bytes
+number-refusal refusal bytes n h = rw (ne-eqb refusal 0 n) (minus-is refusal (omega arith))
 
 -- ---- a number says one thing
 
@@ -71,7 +69,7 @@ module _ (t text text' : List ℕ) (q : ℤ) where
       }
 
   on-found : (s : Sheet) (o : Outcome) → Told t (found s o) → Demands t 16384 64 (levelsOf (found s o) (replicate 64 0)) (replyTo (found s o)) → 4096 ≤ length text →
-      q ≡ bytesOrRefusal (reportOf t (length text) (found s o)) → text' ≡ partOf t (found s o) text → ByPlanner t text' q
+      q ≡ textNumber (reportOf t (length text) (found s o)) → text' ≡ partOf t (found s o) text → ByPlanner t text' q
   on-found s (planned js) n d h e w =
       let u : text' ≡ planText t s js ++ drop (length (planText t s js)) text = rw (le-ltb (length text) 4096 h) at w in
       let z : q ≡ pos (length (planText t s js)) = rw (le-ltb (length text) 4096 h) at e in
@@ -89,7 +87,7 @@ module _ (t text text' : List ℕ) (q : ℤ) where
       on-refused (found s noPlan) d 10 (omega arith) z (λ y. refl)
 
   by-answer : (a : Answer) → Told t a → Demands t 16384 64 (levelsOf a (replicate 64 0)) (replyTo a) →
-      q ≡ bytesOrRefusal (reportOf t (length text) a) → text' ≡ partOf t a text → ByPlanner t text' q
+      q ≡ textNumber (reportOf t (length text) a) → text' ≡ partOf t a text → ByPlanner t text' q
   by-answer (refused number line field) n d e w =
       let z : q ≡ minus number = rw (ne-eqb number 0 (λ y. omega (arith, n, y))) at e in
       on-refused (refused number line field) d number (n .0) z (λ y. y)
@@ -101,7 +99,7 @@ module _ (t text text' : List ℕ) (q : ℤ) where
         | no h ↦ on-found s o n d (omega arith) e w
       ]
 
-  pub by-planner : q ≡ bytesOrRefusal (reportOf t (length text) (answerIn t)) → text' ≡ partOf t (answerIn t) text → ByPlanner t text' q
+  pub by-planner : q ≡ textNumber (reportOf t (length text) (answerIn t)) → text' ≡ partOf t (answerIn t) text → ByPlanner t text' q
   unfolding answerIn
   by-planner e w = by-answer (answerOf t 16384 64) (answer-told t 16384 64) (answer-demands t (replicate 16384 0) (replicate 64 0)) e w
 
@@ -112,7 +110,6 @@ refusal-is (refused number line field) peak = refl
 refusal-is (found s (planned js)) peak = refl
 refusal-is (found s noPlan) peak = refl
 
-pub asked-number : (a : Answer) (words words' bytes bytes' : List ℕ) (r : Reply) → Answers a words words' bytes bytes' r → r .refusal < 2 ^ 32 →
-    toZ w64 (ofZ w64 (pos 0 -ℤ toZ w64 (r .refusal))) ≡ zeroOrRefusal a
-asked-number a words words' bytes bytes' r w h =
-    minus-is (r .refusal) (omega arith) ∙ ap minus (ap (λ (x : Reply). x .refusal) (w .reply) ∙ refusal-is a (r .peak))
+pub asked-number : (a : Answer) (words words' bytes bytes' : List ℕ) (r : Reply) → Answers a words words' bytes bytes' r →
+    bytesOrRefusal (r .refusal) 0 ≡ planNumber a
+asked-number a words words' bytes bytes' r w = ap (λ (k : ℕ). bytesOrRefusal k 0) (ap (λ (x : Reply). x .refusal) (w .reply) ∙ refusal-is a (r .peak))

@@ -21,8 +21,12 @@ abbrev pub minus : ℕ → ℤ
 minus refusal = negℤ (pos refusal)
 
 -- "bytes written, or minus the refusal"
-abbrev pub bytesOrRefusal : Report → ℤ
-bytesOrRefusal r = cond (eqb (r .refusal) 0) (pos (r .length)) (minus (r .refusal))
+abbrev pub bytesOrRefusal : ℕ → ℕ → ℤ
+bytesOrRefusal refusal bytes = cond (eqb refusal 0) (pos bytes) (minus refusal)
+
+-- The number of the call that writes plan text.
+abbrev pub textNumber : Report → ℤ
+textNumber r = bytesOrRefusal (r .refusal) (r .length)
 
 -- The planner's refusal, 0 for a plan; "no plan" is 10.
 abbrev pub refusalIn : Answer → ℕ
@@ -31,15 +35,15 @@ refusalIn (found s (planned js)) = 0
 refusalIn (found s noPlan) = 10
 
 -- The number where firmware lends a table of its own and gets no text: 0, or minus the refusal.
-abbrev pub zeroOrRefusal : Answer → ℤ
-zeroOrRefusal a = minus (refusalIn a)
+abbrev pub planNumber : Answer → ℤ
+planNumber a = bytesOrRefusal (refusalIn a) 0
 
 -- The demands in words, of a call that lends table and levels to the planner: they hold of the levels and of a reply whose refusal
 -- the number says.
 pub record Asks (t : List ℕ) (words bytes : ℕ) (levels : List ℕ) (q : ℤ) : Type 0 where
   pub reply : Reply
   pub demands : Demands t words bytes levels reply
-  pub number : q ≡ minus (reply .refusal)
+  pub number : q ≡ bytesOrRefusal (reply .refusal) 0
 
 -- "A plan or "no plan" from the logger's call or `plan` is the planner's with the table used there": the demands in words hold of
 -- a reply and of levels in a part of 64 bytes, and the call's number and text say these.
