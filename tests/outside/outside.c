@@ -1,0 +1,40 @@
+// Tests the static library from C: outside VECTORS [GROUP]. All groups are run, or the named one.
+#include "check.h"
+#include "groups.h"
+
+#include <stdio.h>
+#include <string.h>
+
+static const struct {
+    const char *name;
+    void (*test)(const char *directory);
+} groups[] = {
+    {"vectors", test_vectors},
+    {"changed sheets", test_changed_sheets},
+    {"lent memory", test_lent_memory},
+    {"largest table", test_largest_table},
+    {"document 01", test_document},
+    {"random sheets", test_random_sheets},
+    {"noise", test_noise},
+};
+
+int main(int count, char **words)
+{
+    if (count < 2 || count > 3) {
+        fprintf(stderr, "usage: outside VECTORS [GROUP]\n");
+        return 2;
+    }
+    for (size_t i = 0; i < sizeof groups / sizeof groups[0]; i++) {
+        if (count == 3 && strcmp(words[2], groups[i].name) != 0)
+            continue;
+        begin_group(groups[i].name);
+        groups[i].test(words[1]);
+        end_group();
+    }
+    if (all_checks() == 0) {
+        fprintf(stderr, "outside: no group %s\n", words[2]);
+        return 2;
+    }
+    printf("outside tests: %lu checks passed\n", all_checks());
+    return 0;
+}

@@ -1,0 +1,282 @@
+#include "sheets.h"
+
+#include <stdarg.h>
+#include <stdio.h>
+#include <stdlib.h>
+#include <string.h>
+
+const char printed_sheet[] = "V\t1\n"
+                             "H\t2\t2\t0\t50\t100\t2500\t1000\t2000\t10\t100\n"
+                             "L\t10000\n"
+                             "L\t20000\n"
+                             "S\t0\t0\n"
+                             "S\t2\t3\n"
+                             "S\t1\t3\n"
+                             "S\t0\t0\n"
+                             "J\tlog\n"
+                             "B\t30\t20\t32768\n"
+                             "B\t18\t45\t32768\n"
+                             "J\tsend\n"
+                             "B\t28\t25\t32768\n"
+                             "B\t15\t40\t32768\n";
+
+const char *const critical_fields[CRITICAL_FIELDS] = {
+    "", "0", "1", "2", "3", "8", "9", "64", "65", "00", "01", "+1", "-1", " 1", "1 ", "1\r", "1.0", "20000", "20001", "65536",
+    "65537", "100000", "100001", "10000000", "10000001", "2000000000", "2000000001", "4294967295", "4294967296", "9999999999",
+    "10000000000", "18446744073709551616", "sixteen-bytes-!!", "seventeen-bytes-!", "\x7f", "\xff", "V", "H", "L", "S", "J",
+    "B", "BB", "\t", "\n", "\t\t", "\n\n",
+};
+
+void set_name(struct sheet *sheet, const char *format, ...)
+{
+    va_list values;
+    va_start(values, format);
+    vsnprintf(sheet->name, sizeof sheet->name, format, values);
+    va_end(values);
+}
+
+void set_text(struct sheet *sheet, const char *text)
+{
+    sheet->length = strlen(text);
+    memcpy(sheet->bytes, text, sheet->length);
+}
+
+void load_sheet(struct sheet *sheet, const char *path)
+{
+    FILE *file = fopen(path, "rb");
+    if (file == NULL) {
+        perror(path);
+        exit(1);
+    }
+    sheet->length = fread(sheet->bytes, 1, SHEET_ROOM, file);
+    fclose(file);
+    const char *name = strrchr(path, '/');
+    set_name(sheet, "%s", name == NULL ? path : name + 1);
+}
+
+static void add_field(struct sheet *sheet, uint64_t number)
+{
+    char *at = (char *)sheet->bytes + sheet->length;
+    sheet->length += (size_t)sprintf(at, "\t%llu", (unsigned long long)number);
+}
+
+static void add_text(struct sheet *sheet, const char *text)
+{
+    memcpy(sheet->bytes + sheet->length, text, strlen(text));
+    sheet->length += strlen(text);
+}
+
+static void add_line(struct sheet *sheet, const char *letter, const uint64_t *numbers, size_t count)
+{
+    add_text(sheet, letter);
+    for (size_t i = 0; i < count; i++)
+        add_field(sheet, numbers[i]);
+    add_text(sheet, "\n");
+}
+
+static void write_job(struct sheet *sheet, const struct plain_frame *frame, uint64_t i)
+{
+    add_text(sheet, "J\t");
+    add_text(sheet, frame->name[i]);
+    add_text(sheet, "\n");
+    for (uint64_t level = 0; level < frame->levels; level++) {
+        const struct plain_job *job = &frame->job[i][level];
+        add_line(sheet, "B", (uint64_t[]){job->time, job->energy, job->decay}, 3);
+    }
+}
+
+void write_sheet(struct sheet *sheet, const struct plain_frame *frame)
+{
+    set_text(sheet, "V\t1\n");
+    const uint64_t head[] = {frame->jobs, frame->levels, frame->start_level, frame->deadline, frame->energy_budget,
+                             frame->temperature_limit, frame->start_temperature, frame->resistance, frame->energy_step,
+                             frame->temperature_step};
+    add_line(sheet, "H", head, 10);
+    for (uint64_t level = 0; level < frame->levels; level++)
+        add_line(sheet, "L", &frame->power[level], 1);
+    for (uint64_t left = 0; left < frame->levels; left++)
+        for (uint64_t entered = 0; entered < frame->levels; entered++) {
+            const struct plain_change *change = &frame->change[left][entered];
+            add_line(sheet, "S", (uint64_t[]){change->time, change->energy}, 2);
+        }
+    for (uint64_t i = 0; i < frame->jobs; i++)
+        write_job(sheet, frame, i);
+}
+
+// The generator splitmix64.
+uint64_t draw(uint64_t *seed, uint64_t below)
+{
+    uint64_t x = *seed += 0x9E3779B97F4A7C15u;
+    x = (x ^ x >> 30) * 0xBF58476D1CE4E5B9u;
+    x = (x ^ x >> 27) * 0x94D049BB133111EBu;
+    return (x ^ x >> 31) % below;
+}
+
+static uint64_t draw_of(uint64_t *seed, const uint64_t *numbers, size_t count)
+{
+    return numbers[draw(seed, count)];
+}
+
+static uint64_t draw_decay(uint64_t *seed)
+{
+    static const uint64_t decays[] = {0, 1, 32768, 65535, 65536};
+    return draw(seed, 2) == 0 ? draw(seed, 65537) : draw_of(seed, decays, 5);
+}
+
+static void draw_name(uint64_t *seed, char *name)
+{
+    uint64_t length = 1 + draw(seed, NAME_BYTES_MAX);
+    for (uint64_t i = 0; i < length; i++)
+        name[i] = (char)(33 + draw(seed, 94));
+    name[length] = 0;
+}
+
+// Small scales make ties and zeros, the largest tries the ends of the ranges.
+static void draw_jobs(uint64_t *seed, struct plain_frame *frame, uint64_t time_scale, uint64_t energy_scale)
+{
+    for (uint64_t i = 0; i < frame->jobs; i++) {
+        draw_name(seed, frame->name[i]);
+        for (uint64_t level = 0; level < frame->levels; level++) {
+            uint64_t energy = draw(seed, 4) == 0 ? 0 : draw(seed, energy_scale + 1);
+            frame->job[i][level] = (struct plain_job){1 + draw(seed, time_scale), energy, draw_decay(seed)};
+        }
+    }
+}
+
+static void draw_changes(uint64_t *seed, struct plain_frame *frame, uint64_t time_scale, uint64_t energy_scale)
+{
+    uint64_t time_below = draw(seed, 3) == 0 ? 1 : time_scale / 2 + 1;
+    uint64_t energy_below = draw(seed, 3) == 0 ? 1 : energy_scale / 2 + 1;
+    for (uint64_t left = 0; left < frame->levels; left++)
+        for (uint64_t entered = 0; entered < frame->levels; entered++)
+            if (left != entered)
+                frame->change[left][entered] = (struct plain_change){draw(seed, time_below), draw(seed, energy_below)};
+}
+
+static void draw_powers(uint64_t *seed, struct plain_frame *frame, uint64_t temperature_scale)
+{
+    static const uint64_t resistances[] = {0, 1, 500, 777, 2000, 10000, 20000};
+    frame->resistance = draw_of(seed, resistances, 7);
+    uint64_t most = frame->resistance == 0 ? 100000 : temperature_scale * 10000 / frame->resistance;
+    for (uint64_t level = 0; level < frame->levels; level++) {
+        frame->power[level] = draw(seed, (most < 100000 ? most : 100000) + 1);
+        frame->steady_state[level] = plain_steady_state(frame->power[level], frame->resistance);
+    }
+}
+
+// A step that parts the range into some cells, so that the need stays near the table of the logger's call.
+static uint64_t draw_step(uint64_t *seed, const struct plain_frame *frame, uint64_t range, uint64_t most)
+{
+    uint64_t cells_max = 2;
+    while ((cells_max + 4) * (cells_max + 4) * frame->jobs * frame->levels < PLAN_TABLE_WORDS)
+        cells_max++;
+    uint64_t step = range / (1 + draw(seed, cells_max)) + draw(seed, 2);
+    return step < 1 ? 1 : step > most ? most : step;
+}
+
+// A limit at a figure, one or some more above it, or one below it.
+static uint64_t draw_limit(uint64_t *seed, uint64_t figure, uint64_t most)
+{
+    uint64_t kind = draw(seed, 8);
+    uint64_t limit = kind < 2 ? figure : kind < 4 ? figure + 1 : kind < 6 ? figure + figure / 8 : figure - (figure > 0);
+    return limit < most ? limit : most;
+}
+
+// Limits near what a drawn list takes by the rounded rule.
+static void draw_limits(uint64_t *seed, struct plain_frame *frame)
+{
+    struct plain_state state = plain_start(frame);
+    uint64_t warmest = state.temperature;
+    for (uint64_t i = 0; i < frame->jobs; i++) {
+        state = plain_after(frame, plain_raised(frame, state), i, draw(seed, frame->levels));
+        warmest = state.temperature > warmest ? state.temperature : warmest;
+    }
+    frame->deadline = draw_limit(seed, state.time, 2000000000);
+    frame->energy_budget = draw_limit(seed, state.energy, 2000000000);
+    frame->temperature_limit = draw_limit(seed, warmest, 20000);
+}
+
+void draw_frame(uint64_t *seed, uint64_t jobs_max, uint64_t levels_max, struct plain_frame *frame)
+{
+    static const uint64_t time_scales[] = {1, 3, 20, 1000, 10000000};
+    static const uint64_t energy_scales[] = {0, 2, 9, 50, 10000000};
+    static const uint64_t temperature_scales[] = {0, 6, 40, 3000, 20000};
+    memset(frame, 0, sizeof *frame);
+    frame->jobs = 1 + draw(seed, jobs_max);
+    frame->levels = 1 + draw(seed, levels_max);
+    frame->start_level = draw(seed, frame->levels);
+    uint64_t time_scale = draw_of(seed, time_scales, 5);
+    uint64_t energy_scale = draw_of(seed, energy_scales, 5);
+    uint64_t temperature_scale = draw_of(seed, temperature_scales, 5);
+    draw_powers(seed, frame, temperature_scale);
+    draw_changes(seed, frame, time_scale, energy_scale);
+    draw_jobs(seed, frame, time_scale, energy_scale);
+    frame->start_temperature = draw(seed, temperature_scale + 1);
+    frame->energy_step = draw_step(seed, frame, frame->jobs * energy_scale, 2000000000);
+    frame->temperature_step = draw_step(seed, frame, temperature_scale, 20000);
+    draw_limits(seed, frame);
+}
+
+// How many bytes stand from a place on before this one, or before the end.
+static size_t length_until(const struct sheet *sheet, size_t at, size_t end, uint8_t byte)
+{
+    size_t length = 0;
+    while (at + length < end && sheet->bytes[at + length] != byte)
+        length++;
+    return length;
+}
+
+static size_t count_byte(const struct sheet *sheet, struct span span, uint8_t byte)
+{
+    size_t count = 0;
+    for (size_t i = 0; i < span.length; i++)
+        count += sheet->bytes[span.at + i] == byte;
+    return count;
+}
+
+size_t count_lines(const struct sheet *sheet)
+{
+    return count_byte(sheet, (struct span){0, sheet->length}, '\n');
+}
+
+struct span find_line(const struct sheet *sheet, size_t line)
+{
+    struct span span = {0, 0};
+    for (size_t i = 0; i < line && span.at + span.length < sheet->length; i++) {
+        span.at += span.length;
+        span.length = length_until(sheet, span.at, sheet->length - 1, '\n') + 1;
+    }
+    return span;
+}
+
+size_t count_fields(const struct sheet *sheet, size_t line)
+{
+    return count_byte(sheet, find_line(sheet, line), '\t') + 1;
+}
+
+struct span find_field(const struct sheet *sheet, size_t line, size_t field)
+{
+    struct span whole = find_line(sheet, line);
+    size_t end = whole.at + length_until(sheet, whole.at, whole.at + whole.length, '\n');
+    struct span span = {whole.at, length_until(sheet, whole.at, end, '\t')};
+    for (size_t i = 1; i < field && span.at + span.length < end; i++) {
+        span.at += span.length + 1;
+        span.length = length_until(sheet, span.at, end, '\t');
+    }
+    return span;
+}
+
+void replace(struct sheet *sheet, struct span span, const void *bytes, size_t length)
+{
+    if (sheet->length - span.length + length > SHEET_ROOM)
+        return;
+    size_t after = span.at + span.length;
+    memmove(sheet->bytes + span.at + length, sheet->bytes + after, sheet->length - after);
+    memcpy(sheet->bytes + span.at, bytes, length);
+    sheet->length = sheet->length - span.length + length;
+}
+
+void set_field(struct sheet *sheet, size_t line, size_t field, const char *value)
+{
+    replace(sheet, find_field(sheet, line, field), value, strlen(value));
+}

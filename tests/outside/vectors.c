@@ -1,0 +1,136 @@
+// The stored vectors as they are, and sheets with bytes cut off, put in or changed, and with fields changed.
+#define _DEFAULT_SOURCE
+
+#include "groups.h"
+#include "sheets.h"
+
+#include <glob.h>
+#include <stdio.h>
+#include <string.h>
+
+enum { VECTORS = 264 };
+
+// The plain planner is held to what is stored, so that the library, which is held to it, is held to what is stored as well.
+static void check_stored(const char *sheet_path, const struct plain_answer *answer)
+{
+    char path[512];
+    int stem = (int)(strlen(sheet_path) - strlen(".sheet"));
+    snprintf(path, sizeof path, "%.*s.expected", stem, sheet_path);
+    static struct sheet stored;
+    load_sheet(&stored, path);
+    char text[TEXT_BYTES_MIN + 1];
+    size_t length = plain_print(answer, text);
+    check(length == stored.length && memcmp(text, stored.bytes, length) == 0,
+          "the plain planner prints something else than is stored: %.*s", (int)length, text);
+}
+
+void test_vectors(const char *directory)
+{
+    char pattern[512];
+    snprintf(pattern, sizeof pattern, "%s/*.sheet", directory);
+    glob_t found = {0};
+    glob(pattern, 0, NULL, &found);
+    check(found.gl_pathc == VECTORS, "%zu vectors in %s, expected %d", found.gl_pathc, directory, VECTORS);
+    for (size_t i = 0; i < found.gl_pathc; i++) {
+        static struct sheet sheet;
+        load_sheet(&sheet, found.gl_pathv[i]);
+        check_stored(found.gl_pathv[i], check_sheet(&sheet));
+    }
+    globfree(&found);
+}
+
+static struct sheet changed;
+
+static void check_cuts(const struct sheet *sheet)
+{
+    for (size_t length = 0; length <= sheet->length; length++) {
+        changed = *sheet;
+        changed.length = length;
+        set_name(&changed, "%.64s, the first %zu bytes", sheet->name, length);
+        check_sheet(&changed);
+    }
+}
+
+static void check_put_in(const struct sheet *sheet, size_t at, uint8_t byte)
+{
+    changed = *sheet;
+    replace(&changed, (struct span){at, 0}, &byte, 1);
+    set_name(&changed, "%.64s, byte %u put in at %zu", sheet->name, byte, at);
+    check_sheet(&changed);
+}
+
+static void check_changed(const struct sheet *sheet, size_t at, uint8_t byte)
+{
+    changed = *sheet;
+    changed.bytes[at] = byte;
+    set_name(&changed, "%.64s, byte %zu changed to %u", sheet->name, at, byte);
+    check_sheet(&changed);
+}
+
+static const uint8_t critical_bytes[] = {0, 9, 10, 13, 32, 33, 43, 45, 48, 49, 50, 57, 66, 74, 126, 127, 128, 255};
+
+enum { CRITICAL_BYTES = sizeof critical_bytes };
+
+// Every critical byte at every place.
+static void check_each_byte(const struct sheet *sheet)
+{
+    for (size_t i = 0; i < CRITICAL_BYTES; i++) {
+        for (size_t at = 0; at < sheet->length; at++) {
+            check_put_in(sheet, at, critical_bytes[i]);
+            check_changed(sheet, at, critical_bytes[i]);
+        }
+        check_put_in(sheet, sheet->length, critical_bytes[i]);
+    }
+}
+
+// One critical byte at every place, another at the next: for sheets that take long to plan.
+static void check_some_byte(const struct sheet *sheet)
+{
+    for (size_t at = 0; at < sheet->length; at++)
+        check_changed(sheet, at, critical_bytes[at % CRITICAL_BYTES]);
+}
+
+static void check_changed_field(const struct sheet *sheet, size_t line, size_t field, const char *value)
+{
+    changed = *sheet;
+    set_field(&changed, line, field, value);
+    set_name(&changed, "%.64s, line %zu field %zu changed to '%s'", sheet->name, line, field, value);
+    check_sheet(&changed);
+}
+
+static void check_each_field(const struct sheet *sheet)
+{
+    for (size_t line = 1; line <= count_lines(sheet); line++)
+        for (size_t field = 1; field <= count_fields(sheet, line); field++)
+            for (size_t i = 0; i < CRITICAL_FIELDS; i++)
+                check_changed_field(sheet, line, field, critical_fields[i]);
+}
+
+static void check_changes(const struct sheet *sheet)
+{
+    check_cuts(sheet);
+    check_each_byte(sheet);
+    check_each_field(sheet);
+}
+
+void test_changed_sheets(const char *directory)
+{
+    static const char *const small[] = {"small-11-3", "damaged-11-1", "damaged-11-61"};
+    static const char *const large[] = {"large-11-5", "large-11-7"};
+    static struct sheet sheet;
+    char path[512];
+    set_name(&sheet, "the printed sheet");
+    set_text(&sheet, printed_sheet);
+    check_changes(&sheet);
+    for (size_t i = 0; i < sizeof small / sizeof small[0]; i++) {
+        snprintf(path, sizeof path, "%s/%s.sheet", directory, small[i]);
+        load_sheet(&sheet, path);
+        check_changes(&sheet);
+    }
+    for (size_t i = 0; i < sizeof large / sizeof large[0]; i++) {
+        snprintf(path, sizeof path, "%s/%s.sheet", directory, large[i]);
+        load_sheet(&sheet, path);
+        check_cuts(&sheet);
+        check_some_byte(&sheet);
+    }
+}
