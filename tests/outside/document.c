@@ -100,9 +100,9 @@ static void check_need(size_t words, int64_t due)
     check(result == due, "begbija_plan with %zu words: result %lld, expected %lld", words, (long long)result, (long long)due);
 }
 
-void test_document(const char *directory)
+void test_document(const char *top)
 {
-    (void)directory;
+    (void)top;
     for (size_t i = 0; i < sizeof cases / sizeof cases[0]; i++) {
         set_text(&sheet, printed_sheet);
         set_name(&sheet, "%s", cases[i].name);

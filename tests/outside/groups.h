@@ -1,13 +1,14 @@
-// The groups of checks. The directory is that of the vectors.
+// The groups of checks, with the repository's top, where the stored sheets are.
 #ifndef GROUPS_H
 #define GROUPS_H
 
-void test_vectors(const char *directory);
-void test_changed_sheets(const char *directory);
-void test_lent_memory(const char *directory);
-void test_largest_table(const char *directory);
-void test_document(const char *directory);
-void test_random_sheets(const char *directory);
-void test_noise(const char *directory);
+void test_vectors(const char *top);
+void test_examples(const char *top);
+void test_changed_sheets(const char *top);
+void test_lent_memory(const char *top);
+void test_largest_table(const char *top);
+void test_document(const char *top);
+void test_random_sheets(const char *top);
+void test_noise(const char *top);
 
 #endif

@@ -94,9 +94,9 @@ static void check_printed_of_length(const char *name, size_t length, unsigned re
     check_lengths(refusal);
 }
 
-void test_lent_memory(const char *directory)
+void test_lent_memory(const char *top)
 {
-    (void)directory;
+    (void)top;
     size_t printed = strlen(printed_sheet);
     check_printed_of_length("the printed sheet", printed, 0);
     check_longest_text();
@@ -152,9 +152,9 @@ static void check_largest(const char *name, uint64_t least_energy, unsigned refu
     check_text(&sheet, &answer, TEXT_BYTES_MIN, FILL);
 }
 
-void test_largest_table(const char *directory)
+void test_largest_table(const char *top)
 {
-    (void)directory;
+    (void)top;
     check_largest("the largest need", 0, 0);
     check_largest("the largest need, no plan", 1, NO_PLAN);
     set_field(&sheet, 2, 6, "64");

@@ -103,9 +103,9 @@ static void check_drawn_bytes(uint64_t *seed, unsigned long number, size_t lengt
     check_sheet(&sheet);
 }
 
-void test_noise(const char *directory)
+void test_noise(const char *top)
 {
-    (void)directory;
+    (void)top;
     uint64_t seed = 3;
     for (unsigned long number = 0; number < DRAWN_BYTES; number++)
         check_drawn_bytes(&seed, number, draw(&seed, 200));

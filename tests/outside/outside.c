@@ -1,4 +1,4 @@
-// Tests the static library from C: outside VECTORS [GROUP]. All groups are run, or the named one.
+// Tests the static library from C: outside TOP [GROUP], with the repository's top. All groups are run, or the named one.
 #include "check.h"
 #include "groups.h"
 
@@ -7,9 +7,10 @@
 
 static const struct {
     const char *name;
-    void (*test)(const char *directory);
+    void (*test)(const char *top);
 } groups[] = {
     {"vectors", test_vectors},
+    {"examples", test_examples},
     {"changed sheets", test_changed_sheets},
     {"lent memory", test_lent_memory},
     {"largest table", test_largest_table},
@@ -21,7 +22,7 @@ static const struct {
 int main(int count, char **words)
 {
     if (count < 2 || count > 3) {
-        fprintf(stderr, "usage: outside VECTORS [GROUP]\n");
+        fprintf(stderr, "usage: outside TOP [GROUP]\n");
         return 2;
     }
     for (size_t i = 0; i < sizeof groups / sizeof groups[0]; i++) {

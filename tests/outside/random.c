@@ -181,9 +181,9 @@ static void check_drawn(unsigned long count, uint64_t seed, uint64_t jobs_max, u
     }
 }
 
-void test_random_sheets(const char *directory)
+void test_random_sheets(const char *top)
 {
-    (void)directory;
+    (void)top;
     check_drawn(SMALL_SHEETS, 1, SMALL_JOBS, SMALL_LEVELS);
     check_drawn(LARGER_SHEETS, 2, 12, LEVELS_MAX);
     check_drawn(LARGEST_SHEETS, 4, JOBS_MAX, LEVELS_MAX);

@@ -1,4 +1,4 @@
-// The stored vectors as they are, and sheets with bytes cut off, put in or changed, and with fields changed.
+// The stored vectors and examples as they are, and sheets with bytes cut off, put in or changed, and with fields changed.
 #define _DEFAULT_SOURCE
 
 #include "groups.h"
@@ -7,8 +7,6 @@
 #include <glob.h>
 #include <stdio.h>
 #include <string.h>
-
-enum { VECTORS = 264 };
 
 // The plain planner is held to what is stored, so that the library, which is held to it, is held to what is stored as well.
 static void check_stored(const char *sheet_path, const struct plain_answer *answer)
@@ -24,19 +22,40 @@ static void check_stored(const char *sheet_path, const struct plain_answer *answ
           "the plain planner prints something else than is stored: %.*s", (int)length, text);
 }
 
-void test_vectors(const char *directory)
+static void check_stored_sheets(const char *top, const char *sheets, size_t count)
 {
     char pattern[512];
-    snprintf(pattern, sizeof pattern, "%s/*.sheet", directory);
+    snprintf(pattern, sizeof pattern, "%s/%s", top, sheets);
     glob_t found = {0};
     glob(pattern, 0, NULL, &found);
-    check(found.gl_pathc == VECTORS, "%zu vectors in %s, expected %d", found.gl_pathc, directory, VECTORS);
+    check(found.gl_pathc == count, "%zu sheets in %s, expected %zu", found.gl_pathc, pattern, count);
     for (size_t i = 0; i < found.gl_pathc; i++) {
         static struct sheet sheet;
         load_sheet(&sheet, found.gl_pathv[i]);
         check_stored(found.gl_pathv[i], check_sheet(&sheet));
     }
     globfree(&found);
+}
+
+void test_vectors(const char *top)
+{
+    check_stored_sheets(top, "tests/vectors/*.sheet", 264);
+}
+
+// The example that needs a lent table has a plan with it.
+void test_examples(const char *top)
+{
+    static struct sheet sheet;
+    static struct plain_answer answer;
+    static uint32_t table[TABLE_WORDS_MAX];
+    char path[512];
+    check_stored_sheets(top, "examples/*.sheet", 3);
+    check_stored_sheets(top, "examples/refused/*.sheet", 9);
+    snprintf(path, sizeof path, "%s/examples/long_frame.sheet", top);
+    load_sheet(&sheet, path);
+    answer_sheet(&sheet, table, TABLE_WORDS_MAX, &answer);
+    check(answer.refusal.number == 0, "the plain planner answers %u", answer.refusal.number);
+    check_plan(&sheet, &answer, table, TABLE_WORDS_MAX, JOBS_MAX, FILL);
 }
 
 static struct sheet changed;
@@ -113,7 +132,7 @@ static void check_changes(const struct sheet *sheet)
     check_each_field(sheet);
 }
 
-void test_changed_sheets(const char *directory)
+void test_changed_sheets(const char *top)
 {
     static const char *const small[] = {"small-11-3", "damaged-11-1", "damaged-11-61"};
     static const char *const large[] = {"large-11-5", "large-11-7"};
@@ -123,12 +142,12 @@ void test_changed_sheets(const char *directory)
     set_text(&sheet, printed_sheet);
     check_changes(&sheet);
     for (size_t i = 0; i < sizeof small / sizeof small[0]; i++) {
-        snprintf(path, sizeof path, "%s/%s.sheet", directory, small[i]);
+        snprintf(path, sizeof path, "%s/tests/vectors/%s.sheet", top, small[i]);
         load_sheet(&sheet, path);
         check_changes(&sheet);
     }
     for (size_t i = 0; i < sizeof large / sizeof large[0]; i++) {
-        snprintf(path, sizeof path, "%s/%s.sheet", directory, large[i]);
+        snprintf(path, sizeof path, "%s/tests/vectors/%s.sheet", top, large[i]);
         load_sheet(&sheet, path);
         check_cuts(&sheet);
         check_some_byte(&sheet);
