@@ -5,18 +5,21 @@
  */
 #include <begbija.h>
 #include <stdio.h>
+#include <stdlib.h>
 
 static uint8_t sheet[BEGBIJA_SHEET_MAX + 1];
 static uint8_t text[BEGBIJA_TEXT_MIN];
 static uint32_t table[BEGBIJA_TABLE_MAX];
 static uint8_t levels[BEGBIJA_JOBS_MAX];
 
-/* A longer sheet is cut one byte beyond the longest lawful one, which is enough for the planner to refuse it. */
+/* A longer sheet is cut one byte beyond the longest that is taken, which is enough for the planner to refuse it. */
 static size_t read_sheet(const char *path)
 {
     FILE *file = fopen(path, "rb");
-    if (file == NULL)
-        return 0;
+    if (file == NULL) {
+        perror(path);
+        exit(2);
+    }
     size_t size = fread(sheet, 1, sizeof sheet, file);
     fclose(file);
     return size;

@@ -1,5 +1,6 @@
 -- The numbers of the two calls, and the demands in words behind them.
 -- Assumes nothing.
+use mathlib.Core.Logic.{_⊎_, inl, inr, ⊎-elim}
 use mathlib.Core.Path.{_≡_, refl, sym, ap, _∙_}
 use mathlib.Core.Bool.{true≢false}
 use mathlib.Core.List.{List, _++_}
@@ -25,7 +26,7 @@ use Rattle.planner.proofs.Ways.{replyTo, answer-demands}
 use Rattle.plan_text.specs.Text.{planText}
 use Rattle.report.specs.Report.{answerIn, reportOf, partOf}
 use Rattle.report.proofs.Told.{Told, answer-told, told-best}
-use Rattle.logger.specs.Logger.{minus, bytesOrRefusal, textNumber, refusalIn, planNumber, ByPlanner}
+use Rattle.logger.specs.Logger.{minus, bytesOrRefusal, textNumber, refusalIn, planNumber, TextDemands}
 
 -- ---- the code's numbers
 
@@ -56,20 +57,38 @@ plan-levels : (t : List ℕ) (s : Sheet) (js : List ℕ) → Told t (found s (pl
 plan-levels t s js n = take-at js (drop s.jobs (replicate 64 0)) s.jobs (told-best t s (planned js) n .keeps .levels .size)
 
 module _ (t text text' : List ℕ) (q : ℤ) where
-  -- A refusal k that is no "no plan", or is the planner's own.
-  on-refused : (a : Answer) → Demands t 16384 64 (levelsOf a (replicate 64 0)) (replyTo a) → (k : ℕ) → 1 ≤ k → q ≡ minus k →
-      (k ≡ 10 → (replyTo a) .refusal ≡ 10) → ByPlanner t text' q
-  on-refused a d k h e f =
+  -- The planner's own refusal.
+  on-refused : (a : Answer) → Demands t 16384 64 (levelsOf a (replicate 64 0)) (replyTo a) → (k : ℕ) → 1 ≤ k → ¬ (k ≡ 9) → (replyTo a) .refusal ≡ k →
+      (4096 ≤ length text) ⊎ (k ≤ 8) → q ≡ minus k → TextDemands t (length text) text' q
+  on-refused a d k h o r w e =
       record {
         reply = replyTo a;
         levels = levelsOf a (replicate 64 0);
         demands = d;
         plan = λ n z. absurd (refusal-not k n h (sym e ∙ z));
-        none = λ z. f (same-refusal k 10 (sym e ∙ z));
+        refused = λ i l u z. r ∙ same-refusal k i (sym e ∙ z);
+        narrow = ((λ z. absurd (o (same-refusal k 9 (sym e ∙ z)))), (λ z. absurd (⊎-elim (λ v. omega (arith, z .0, v)) (λ v. ⊎-elim (λ y. omega (arith, r, y, v, h)) (λ y. omega (arith, r, y, v)) (z .1)) w)));
       }
 
+  -- A part that is too short, in the place of a plan or of "no plan".
+  on-narrow : (s : Sheet) (o : Outcome) → Demands t 16384 64 (levelsOf (found s o) (replicate 64 0)) (replyTo (found s o)) → length text < 4096 →
+      ((replyTo (found s o)) .refusal ≡ 0) ⊎ ((replyTo (found s o)) .refusal ≡ 10) → q ≡ minus 9 → TextDemands t (length text) text' q
+  on-narrow s o d h u e =
+      record {
+        reply = replyTo (found s o);
+        levels = levelsOf (found s o) (replicate 64 0);
+        demands = d;
+        plan = λ n z. absurd (refusal-not 9 n (omega arith) (sym e ∙ z));
+        refused = λ k l w z. absurd (w (sym (same-refusal 9 k (sym e ∙ z))));
+        narrow = ((λ z. (h, u)), (λ z. e));
+      }
+
+  zero-or-ten : (s : Sheet) (o : Outcome) → ((replyTo (found s o)) .refusal ≡ 0) ⊎ ((replyTo (found s o)) .refusal ≡ 10)
+  zero-or-ten s (planned js) = inl refl
+  zero-or-ten s noPlan = inr refl
+
   on-found : (s : Sheet) (o : Outcome) → Told t (found s o) → Demands t 16384 64 (levelsOf (found s o) (replicate 64 0)) (replyTo (found s o)) → 4096 ≤ length text →
-      q ≡ textNumber (reportOf t (length text) (found s o)) → text' ≡ partOf t (found s o) text → ByPlanner t text' q
+      q ≡ textNumber (reportOf t (length text) (found s o)) → text' ≡ partOf t (found s o) text → TextDemands t (length text) text' q
   on-found s (planned js) n d h e w =
       let u : text' ≡ planText t s js ++ drop (length (planText t s js)) text = rw (le-ltb (length text) 4096 h) at w in
       let z : q ≡ pos (length (planText t s js)) = rw (le-ltb (length text) 4096 h) at e in
@@ -80,28 +99,29 @@ module _ (t text text' : List ℕ) (q : ℤ) where
         plan = λ k y.
             let i : length (planText t s js) ≡ k = ap natAbs (sym z ∙ y) in
             (refl, rw (← n .1, plan-levels t s js n) (ap (take k) u ∙ take-at (planText t s js) (drop (length (planText t s js)) text) k i));
-        none = λ y. absurd (refusal-not 10 (length (planText t s js)) (omega arith) (sym y ∙ z));
+        refused = λ k l o y. absurd (refusal-not k (length (planText t s js)) l (sym y ∙ z));
+        narrow = ((λ y. absurd (refusal-not 9 (length (planText t s js)) (omega arith) (sym y ∙ z))), (λ y. absurd (omega (arith, y .0, h))));
       }
   on-found s noPlan n d h e w =
       let z : q ≡ minus 10 = rw (le-ltb (length text) 4096 h) at e in
-      on-refused (found s noPlan) d 10 (omega arith) z (λ y. refl)
+      on-refused (found s noPlan) d 10 (omega arith) (λ y. omega (arith, y)) refl (inl h) z
 
   by-answer : (a : Answer) → Told t a → Demands t 16384 64 (levelsOf a (replicate 64 0)) (replyTo a) →
-      q ≡ textNumber (reportOf t (length text) a) → text' ≡ partOf t a text → ByPlanner t text' q
+      q ≡ textNumber (reportOf t (length text) a) → text' ≡ partOf t a text → TextDemands t (length text) text' q
   by-answer (refused number line field) n d e w =
       let z : q ≡ minus number = rw (ne-eqb number 0 (λ y. omega (arith, n, y))) at e in
-      on-refused (refused number line field) d number (n .0) z (λ y. y)
+      on-refused (refused number line field) d number (n .0) (λ y. omega (arith, n, y)) refl (inr (omega (arith, n))) z
   by-answer (found s o) n d e w =
       elim (decLt (length text) 4096) [
         | yes h ↦
             let z : q ≡ minus 9 = rw (lt-ltb (length text) 4096 h) at e in
-            on-refused (found s o) d 9 (omega arith) z (λ y. omega (arith, y))
+            on-narrow s o d h (zero-or-ten s o) z
         | no h ↦ on-found s o n d (omega arith) e w
       ]
 
-  pub by-planner : q ≡ textNumber (reportOf t (length text) (answerIn t)) → text' ≡ partOf t (answerIn t) text → ByPlanner t text' q
+  pub text-demands : q ≡ textNumber (reportOf t (length text) (answerIn t)) → text' ≡ partOf t (answerIn t) text → TextDemands t (length text) text' q
   unfolding answerIn
-  by-planner e w = by-answer (answerOf t 16384 64) (answer-told t 16384 64) (answer-demands t (replicate 16384 0) (replicate 64 0)) e w
+  text-demands e w = by-answer (answerOf t 16384 64) (answer-told t 16384) (answer-demands t (replicate 16384 0) (replicate 64 0)) e w
 
 -- ---- the call with a lent table
 

@@ -1,12 +1,14 @@
--- What holds of every answer, by the ways to it: a sheet that is turned away, one of 7 to 9, and what is found.
+-- What holds of every answer, by the ways to it: a sheet that is turned away, 7 or 8, 9, and what is found.
 -- Assumes nothing.
 use mathlib.Core.Path.{_≡_, refl}
-use mathlib.Core.Bool.{Bool, true, false, cond}
+use mathlib.Core.Bool.{Bool, cond}
 use mathlib.Core.List.{List}
-use Prim.Native.Nat.{ℕ, _≤_}
+use Prim.Native.Nat.{ℕ, _≤_, _<_}
 use native.Mathlib.Omega.{arith}
 use lib.Dec.{ltb}
 use lib.ListN.{length}
+use borrow.Author.Tests.{ltb-true}
+use Rattle.lines.proofs.Kept.{cond-cases}
 use Rattle.frame.specs.Sheet.{Sheet}
 use Rattle.frame.specs.Run.{start, exactRun}
 use Rattle.frame.specs.Demands.{Outcome, planned, noPlan}
@@ -28,8 +30,7 @@ use Rattle.planner.proofs.Demands.{demands-hold}
 
 module _ (P : Answer → Type 0) where
   either : (b : Bool) (x y : Answer) → P x → P y → P (cond b x y)
-  either true x y h k = h
-  either false x y h k = k
+  either b x y h k = cond-cases P b x y (λ e. h) (λ e. k)
 
   reading : (f : Refusal) (go : Answer) → (1 ≤ numberOf f → numberOf f ≤ 6 → P (turnedAway f)) → (f ≡ Nothing → P go) → P (accepted f go)
   reading Nothing go a h = h refl
@@ -40,19 +41,20 @@ module _ (P : Answer → Type 0) where
   reading Hot go a h = a (omega arith) (omega arith)
   reading (Trailing line) go a h = a (omega arith) (omega arith)
 
-  module _ (late : (n : ℕ) → 7 ≤ n → n ≤ 9 → P (refused n 0 0)) where
-    frame-ways : (s : Sheet) (words bytes : ℕ) → P (found s (frameOutcome s)) → P (answerFor s words bytes)
+  module _ (late : (n : ℕ) → 7 ≤ n → n ≤ 8 → P (refused n 0 0)) where
+    frame-ways : (s : Sheet) (words bytes : ℕ) → (bytes < s.jobs → P (refused 9 0 0)) → P (found s (frameOutcome s)) → P (answerFor s words bytes)
     unfolding answerFor
-    frame-ways s words bytes h =
+    frame-ways s words bytes nine h =
         either (ltb 4194304 (need s)) _ _ (late 7 (omega arith) (omega arith))
         (either (ltb words (need s)) _ _ (late 8 (omega arith) (omega arith))
-        (either (ltb bytes s.jobs) _ _ (late 9 (omega arith) (omega arith)) h))
+        (cond-cases P (ltb bytes s.jobs) _ _ (λ e. nine (ltb-true bytes s.jobs e)) (λ e. h)))
 
     pub answer-ways : (t : List ℕ) (words bytes : ℕ) →
         (let f = (sheetOf t) .refusal in 1 ≤ numberOf f → numberOf f ≤ 6 → P (turnedAway f)) →
+        ((sheetOf t) .refusal ≡ Nothing → bytes < (frameOf (sheetOf t)) .jobs → P (refused 9 0 0)) →
         ((sheetOf t) .refusal ≡ Nothing → P (found (frameOf (sheetOf t)) (frameOutcome (frameOf (sheetOf t))))) → P (answerOf t words bytes)
     unfolding answerOf
-    answer-ways t words bytes a h = reading ((sheetOf t) .refusal) _ a (λ e. frame-ways (frameOf (sheetOf t)) words bytes (h e))
+    answer-ways t words bytes a nine h = reading ((sheetOf t) .refusal) _ a (λ e. frame-ways (frameOf (sheetOf t)) words bytes (nine e) (h e))
 
 -- ---- the answer's own reply, with the peak of the plan's run
 
@@ -80,5 +82,5 @@ answer-demands t words bytes =
     let a = answerOf t (length words) (length bytes) in
     demands-hold t words (tableOf a words) bytes (partOf a bytes) (replyTo a)
     (answers-itself a words bytes
-    (answer-ways (λ x. PeakOf x (peakOf x)) (λ n l h. tt) t (length words) (length bytes) (λ l h. tt)
+    (answer-ways (λ x. PeakOf x (peakOf x)) (λ n l h. tt) t (length words) (length bytes) (λ l h. tt) (λ e h. tt)
     (λ e. let s = frameOf (sheetOf t) in peak-found s (frameOutcome s) (frame-demand3 s (read-ranges t e)))))

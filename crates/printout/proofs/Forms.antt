@@ -26,7 +26,7 @@ answer-small : (t : List ℕ) → Small (answerIn t)
 unfolding answerIn
 answer-small t =
     answer-ways Small (λ n l h. (omega arith, omega arith, omega arith, omega arith)) t 16384 64
-    (λ l h. (l, omega arith, refusal-line t, refusal-field t)) (λ e. tt)
+    (λ l h. (l, omega arith, refusal-line t, refusal-field t)) (λ e h. (omega arith, omega arith, omega arith, omega arith)) (λ e. tt)
 
 -- What an R line's room rests on.
 pub record Short (r : Report) : Type 0 where

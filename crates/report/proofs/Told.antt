@@ -27,14 +27,15 @@ use Rattle.writer.specs.Written.{Wrote}
 use Rattle.report.specs.declared.Report.{Report}
 use Rattle.report.specs.Report.{textLeast, refusedAs, reportOf, partOf}
 
--- What holds of every answer to a sheet: a refusal has a number of 1 to 9, and what is found is found on the sheet that was read.
+-- What holds of every answer to a sheet with 64 bytes for levels: a refusal has a number of 1 to 8, and what is found is found on the sheet that was read.
 abbrev pub Told : List ℕ → Answer → Type 0
-Told t (refused number line field) = (1 ≤ number) × (number ≤ 9)
+Told t (refused number line field) = (1 ≤ number) × (number ≤ 8)
 Told t (found s o) = ((sheetOf t) .refusal ≡ Nothing) × (s ≡ frameOf (sheetOf t)) × (o ≡ frameOutcome s)
 
-pub answer-told : (t : List ℕ) (words bytes : ℕ) → Told t (answerOf t words bytes)
-answer-told t words bytes =
-    answer-ways (Told t) (λ n l h. (omega arith, omega arith)) t words bytes (λ l h. (l, omega arith)) (λ e. (e, refl, refl))
+pub answer-told : (t : List ℕ) (words : ℕ) → Told t (answerOf t words 64)
+answer-told t words =
+    answer-ways (Told t) (λ n l h. (omega arith, h)) t words 64 (λ l h. (l, omega arith))
+    (λ e h. absurd (omega (arith, h, read-ranges t e .jobs .high))) (λ e. (e, refl, refl))
 
 -- What is found meets demand 2.
 pub told-best : (t : List ℕ) (s : Sheet) (o : Outcome) → Told t (found s o) → frame.Demand2 s s.jobs (start s) o

@@ -43,7 +43,7 @@ pub fn write_plan(s: &[u8], text: &mut [u8]) -> Report
     if text.len() < 4096 {
         return refuse(9, 0, 0);
     }
-    if 0 < refusal {
+    if 9 < refusal {
         return refuse(10, 0, 0);
     }
     let r = sheet::read(s);

@@ -2,7 +2,7 @@ use mir.Syntax.{w64}
 use mir.Facts.{toZ-ofZ}
 use mathlib.Core.Path.{ap, _∙_}
 use Rattle.logger.specs.Logger.{textNumber}
-use Rattle.logger.proofs.Numbers.{by-planner}
+use Rattle.logger.proofs.Numbers.{text-demands}
 use borrow.Author.Needs.{needs}
 use Rattle.logger.proofs.begbija_plan_text.Statement.{statement}
 use Rattle.logger.proofs.begbija_plan_text.Tie as tie
@@ -29,7 +29,7 @@ returns c =
     let w = c .before .before .before .write-plan in
     let r = c .bytes-or-refusal in
     let e = toZ-ofZ {w = w64} {z = r .result} (record { sfits = r .ok }) ∙ r .ensures ∙ ap textNumber (w .ensures .0) in
-    (e, (w .ensures .1 .0, by-planner _ _ _ _ e (w .ensures .1 .0)))
+    (e, (w .ensures .1 .0, text-demands _ _ _ _ e (w .ensures .1 .0)))
 
 pub begbija-plan-text-spec : {M : Type 1} → statement M
 begbija-plan-text-spec =

@@ -1,4 +1,5 @@
 use mathlib.Core.Path.{_≡_, refl, ap, _∙_}
+use native.Mathlib.Decide.{decLt}
 use native.Mathlib.Omega.{arith}
 use lib.ListN.{replicate}
 use denote.Ref.{now}
@@ -42,7 +43,7 @@ answered c = c .plan .ensures .0
 
 told : (c : tie.After-plan) → Told (now (c .before .before .before .before .before .args .s)) (answerIn (now (c .before .before .before .before .before .args .s)))
 unfolding answerIn
-told c = answer-told _ 16384 64
+told c = answer-told _ 16384
 
 -- src/lib.rt:37:9
 returns : tie.Need-returns
@@ -66,7 +67,7 @@ refuse-requires-3 c κs = search needs
 
 -- src/lib.rt:43:9
 returns-3 : tie.Need-returns-3
-returns-3 c = told-none _ _ _ _ _ _ _ (other (c .before .before .before)) (c .before .before .if3 .left) (answerIn _) (told (c .before .before .before .before .before .before)) (answered (c .before .before .before .before .before .before)) (c .before .if4 .taken) _ (c .refuse3 .ensures)
+returns-3 c = told-none _ _ _ _ _ _ _ (other (c .before .before .before)) (c .before .before .if3 .left) (answerIn _) (told (c .before .before .before .before .before .before)) (answered (c .before .before .before .before .before .before)) (omega (arith, c .before .if4 .taken)) _ (c .refuse3 .ensures)
 
 -- src/lib.rt:45:9
 read-requires : tie.Need-read-requires
@@ -78,7 +79,11 @@ slice-aggregate-put-plan c = search needs
 
 -- What is left is a plan.
 plan-is : (c : tie.Else4) → c .before .before .before .before .before .plan .result .refusal ≡ 0
-plan-is c = omega (arith, c .if4 .left)
+plan-is c =
+    elim (decLt 0 (c .before .before .before .before .before .plan .result .refusal)) [
+      | yes h ↦ absurd (omega (arith, c .if4 .left, other (c .before .before) h))
+      | no h ↦ omega (arith, h)
+    ]
 
 -- src/lib.rt:46:9
 put-plan-requires : tie.Need-put-plan-requires
