@@ -32,7 +32,7 @@ use Rattle.step.specs.Store.{Stored}
 use Rattle.table.specs.declared.Frame.{Frame}
 use Rattle.table.specs.Table.{sheetBy, Axes, Steps, placeBy, restIn, restBy}
 use Rattle.table.proofs.Lookup.{rest-by, rest-least, looks}
-use Rattle.table.proofs.Filling.{filled-words}
+use Rattle.table.proofs.Cells.{filled-words}
 use Rattle.walk.specs.Walk.{Starts}
 use Rattle.planner.specs.declared.Reply.{Reply}
 use Rattle.planner.specs.Answer.{Answer, refused, found, answerFor, accepted, answerOf, refusedAs, tableOf, partOf, Answers}

@@ -104,7 +104,7 @@ fn find_plan(
     requires { λ s. ⌜ (Axes s f) × (Stored s (now figures) (now steady)) × (need s ≤ length (now table)) × (s .jobs ≤ length (now part)) ⌝ }
     ensures { λ s b. ⌜ Finds s (now (table .entry)) (now (table .exit)) (now (part .entry)) (now (part .exit)) b ⌝ }
 {
-    table::fill(f, figures, steady, table);
+    fill::fill(f, figures, steady, table);
     let start = Run::start(f.start_level, f.start_temperature as u64);
     if (f.deadline as u64) < table::rest_of(f, table, start) {
         return false;

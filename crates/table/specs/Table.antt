@@ -6,12 +6,12 @@ use mathlib.Core.Bool.{cond}
 use mathlib.Core.List.{List}
 use Prim.Native.Nat.{ℕ, _+_, _*_, _≤_, _<_}
 use lib.Dec.{ltb}
-use lib.ListN.{length, getD}
+use lib.ListN.{getD}
 use Rattle.thermal.specs.Rounding.{ceilDiv}
 use Rattle.frame.specs.Sheet.{Sheet, Ranges}
 use Rattle.frame.specs.Run.{State, fresh, raised}
 use Rattle.frame.specs.Plan.{leastOf, firstWithin}
-use Rattle.frame.specs.Table.{energyCells, temperatureCells, need, place, word, wordAt}
+use Rattle.frame.specs.Table.{energyCells, temperatureCells, need, place, word}
 use Rattle.run.specs.declared.Run.{Run}
 use Rattle.sheet.specs.declared.Refusal.the-variants.{Nothing}
 use Rattle.sheet.specs.Frame.{frameOf}
@@ -95,14 +95,6 @@ restIn f table b = cond (ltb (b .done) (f .jobs)) (getD table (placeBy f b) 0) 0
 -- Of the ways by k levels, the least time, and the first level that takes it.
 abbrev pub choiceOf : ℕ → (ℕ → ℕ) → Choice
 choiceOf k f = record { time = leastOf k f; level = firstWithin k f (leastOf k f) }
-
--- The table is filled from place k on, and its other words are as they were: "the need's words to the table, nothing beyond".
-pub record FilledFrom (s : Sheet) (k : ℕ) (old new : List ℕ) : Type 0 where
-  pub most : k ≤ need s
-  pub long : length new ≡ length old
-  pub within : (q : ℕ) → k ≤ q → q < need s → getD new q 0 ≡ wordAt s q
-  pub beyond : (q : ℕ) → need s ≤ q → getD new q 0 ≡ getD old q 0
-  pub ahead : (q : ℕ) → q < k → getD new q 0 ≡ getD old q 0
 
 -- The table holds the words of i jobs done.
 pub record Holds (s : Sheet) (table : List ℕ) (i : ℕ) : Type 0 where

@@ -4,10 +4,10 @@ ghost use lib.ListN.{length};
 ghost use Rattle.thermal.specs.Rounding.{ceilDiv};
 ghost use Rattle.frame.specs.Sheet.{Sheet};
 ghost use Rattle.frame.specs.Plan.{via};
-ghost use Rattle.frame.specs.Table.{energyCells, temperatureCells, need, place, filled};
+ghost use Rattle.frame.specs.Table.{need, place};
 ghost use Rattle.run.specs.Run.{stateOf};
 ghost use Rattle.step.specs.Store.{Stored};
-ghost use Rattle.table.specs.Table.{choiceOf, sheetBy, Axes, AtCell, placeBy, restIn, restBy, Steps, FilledFrom};
+ghost use Rattle.table.specs.Table.{choiceOf, sheetBy, Axes, AtCell, placeBy, restIn, restBy, Steps};
 use run::Run;
 
 // "4,294,967,295 where no way exists"
@@ -109,61 +109,5 @@ pub fn choose(f: Frame, figures: &[u32; 1672], steady: &[u32; 8], table: &[u32],
     Choice {
         time: least,
         level: first,
-    }
-}
-
-// Fills the words of i jobs done, level p before and energy cell a, which begin at `base`, from the last to the first.
-fn fill_row(
-    f: Frame,
-    figures: &[u32; 1672],
-    steady: &[u32; 8],
-    table: &mut [u32],
-    i: u32,
-    p: u32,
-    a: usize,
-    base: usize,
-)
-    ghost { Sheet }
-    requires { λ s. ⌜ sheetBy f (now figures) ≡ s ⌝ }
-    requires { λ s. ⌜ (Axes s f) × (Stored s (now figures) (now steady)) × (need s ≤ length (now table)) ⌝ }
-    requires { λ s. ⌜ (i < s .jobs) × (p < s .levels) × (a < energyCells s) × (base ≡ place s i p a 0) ⌝ }
-    requires { λ s. ⌜ FilledFrom s (base + temperatureCells s) (now table) (now table) ⌝ }
-    ensures { λ s r. ⌜ FilledFrom s base (now (table .entry)) (now (table .exit)) ⌝ }
-{
-    let energy = a as u64 * f.energy_step as u64;
-    let step = f.temperature_step as u64;
-    let mut b = f.temperature_cells;
-    while 0 < b {
-        b -= 1;
-        let c = Run::fresh(i, p, energy, b as u64 * step);
-        let w = choose(f, figures, steady, table, c);
-        table[base + b] = w.time as u32;
-    }
-}
-
-// Fills the table, from its last row to its first, so that a row finds the words of one more job done.
-pub fn fill(f: Frame, figures: &[u32; 1672], steady: &[u32; 8], table: &mut [u32])
-    ghost { Sheet }
-    requires { λ s. ⌜ sheetBy f (now figures) ≡ s ⌝ }
-    requires { λ s. ⌜ (Axes s f) × (Stored s (now figures) (now steady)) × (need s ≤ length (now table)) ⌝ }
-    ensures { λ s r. ⌜ now (table .exit) ≡ filled s (now (table .entry)) ⌝ }
-{
-    let l = f.levels as usize;
-    let cells = f.energy_cells;
-    let width = f.temperature_cells;
-    let mut x = f.jobs as usize * l * cells;
-    while 0 < x {
-        x -= 1;
-        let y = x / cells;
-        fill_row(
-            f,
-            figures,
-            steady,
-            table,
-            (y / l) as u32,
-            (y % l) as u32,
-            x % cells,
-            x * width,
-        );
     }
 }

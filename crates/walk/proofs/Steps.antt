@@ -18,7 +18,7 @@ use Rattle.run.specs.Run.{stateOf}
 use Rattle.run.specs.declared.Run.{Run}
 use Rattle.table.specs.declared.Frame.{Frame}
 use Rattle.table.specs.Table.{Axes, AtCell, restBy, Holds}
-use Rattle.table.proofs.Filling.{at-cell}
+use Rattle.table.proofs.Cells.{at-cell}
 use Rattle.table.proofs.Lookup.{next-level, next-done, next-peak, next-cell, way-least}
 use Rattle.walk.specs.Walk.{Starts}
 

@@ -10,7 +10,7 @@ use Rattle.frame.specs.Table.{need}
 use Rattle.run.specs.Run.{stateOf}
 use Rattle.sheet.specs.Frame.{frameOf}
 use Rattle.table.specs.Table.{sheetBy}
-use Rattle.table.proofs.Filling.{filled-words}
+use Rattle.table.proofs.Cells.{filled-words}
 use Rattle.planner.proofs.Replies.{start-run, start-looks, start-rest, finds-none, finds-plan, starts, walked}
 use borrow.Author.Needs.{needs}
 use Rattle.planner.proofs.find_plan.Statement.{statement}
@@ -18,7 +18,7 @@ use Rattle.planner.proofs.find_plan.Tie as tie
 use Rattle.planner.proofs.find_plan.Reads as reads
 use Rattle.planner.proofs.find_plan.Lts as lts
 use Rattle.run.proofs.Run.start.Reads as start-reads
-use Rattle.table.proofs.fill.Reads as fill-reads
+use Rattle.fill.proofs.fill.Reads as fill-reads
 use Rattle.table.proofs.rest_of.Reads as rest-of-reads
 use Rattle.walk.proofs.walk.Reads as walk-reads
 

@@ -1,0 +1,213 @@
+ghost use mathlib.Core.Path.{_≡_};
+ghost use mathlib.Core.Bool.{cond};
+ghost use Prim.Native.Nat.{suc, _+_, _*_, _≤_, _<_};
+ghost use lib.Dec.{leb};
+ghost use lib.ListN.{length};
+ghost use Rattle.thermal.specs.Rounding.{ceilDiv};
+ghost use Rattle.frame.specs.Sheet.{Sheet};
+ghost use Rattle.frame.specs.Table.{temperatureCells, need, filled};
+ghost use Rattle.step.specs.Store.{Stored};
+ghost use Rattle.table.specs.Table.{sheetBy, Axes, Holds};
+ghost use Rattle.runs.specs.Runs.{Runs};
+ghost use Rattle.fill.specs.Layer.{base, moved, shiftOf, reachOf, nextCell, Kept, Moves, Ahead, Follows, FilledFrom};
+use run::Run;
+use table::Frame;
+
+// A job's move from one level to another.
+struct Move {
+    shift: usize,
+    reach: usize,
+    time: u32,
+}
+
+// The move of job i from level p to level j. Its energy is that of the same job from energy 0.
+fn move_of(f: Frame, figures: &[u32; 1672], steady: &[u32; 8], i: u32, p: u32, j: u32) -> Move
+    ghost { Sheet }
+    requires { λ s. ⌜ sheetBy f (now figures) ≡ s ⌝ }
+    requires { λ s. ⌜ (Axes s f) × (Stored s (now figures) (now steady)) ⌝ }
+    requires { λ s. ⌜ (i < s .jobs) × (p < s .levels) × (j < s .levels) ⌝ }
+    ensures { λ s r. ⌜ r ≡ record { shift = shiftOf s i p j; reach = reachOf s i p j; time = (moved s i p j) .time } ⌝ }
+{
+    let b = step::next_job(Run::fresh(i, p, 0, 0), figures, steady, j);
+    let time = b.time as u32;
+    if f.energy_budget < b.energy {
+        return Move {
+            shift: 0,
+            reach: 0,
+            time: time,
+        };
+    }
+    let energy = b.energy as u32;
+    let rest = (f.energy_budget - b.energy) as u32;
+    let shift = table::ceil_div(energy, f.energy_step) as usize * f.temperature_cells;
+    let reach = (rest / f.energy_step) as usize * f.temperature_cells + f.temperature_cells;
+    Move {
+        shift: shift,
+        reach: reach,
+        time: time,
+    }
+}
+
+// Finds the l × l moves of job i.
+fn find_moves(
+    f: Frame,
+    figures: &[u32; 1672],
+    steady: &[u32; 8],
+    i: u32,
+    shifts: &mut [u32],
+    reaches: &mut [u32],
+    times: &mut [u32],
+)
+    ghost { Sheet }
+    requires { λ s. ⌜ sheetBy f (now figures) ≡ s ⌝ }
+    requires { λ s. ⌜ (Axes s f) × (Stored s (now figures) (now steady)) × (i < s .jobs) ⌝ }
+    requires { λ s. ⌜ (64 ≤ length (now shifts)) × (64 ≤ length (now reaches)) × (64 ≤ length (now times)) ⌝ }
+    ensures { λ s r. ⌜ Moves s i (s .levels * s .levels) (now (shifts .exit)) (now (reaches .exit)) (now (times .exit)) ⌝ }
+{
+    let l = f.levels;
+    let mut u: u32 = 0;
+    while u < l * l {
+        let m = move_of(f, figures, steady, i, u / l, u % l);
+        shifts[u as usize] = m.shift as u32;
+        reaches[u as usize] = m.reach as u32;
+        times[u as usize] = m.time;
+        u += 1;
+    }
+}
+
+// The temperature cell of a temperature at a job's end, B where it is above the limit.
+fn cell_of(f: Frame, t: u64) -> u32
+    requires { ⌜ (f .«temperature_limit» ≤ 20000) × (1 ≤ f .«temperature_step») × (f .«temperature_step» ≤ 20000) × (f .«temperature_cells» ≤ 4194304) ⌝ }
+    ensures { λ r. ⌜ r ≡ cond (leb t (f .«temperature_limit»)) (ceilDiv t (f .«temperature_step»)) (f .«temperature_cells») ⌝ }
+{
+    if t <= f.temperature_limit {
+        return table::ceil_div(t as u32, f.temperature_step);
+    }
+    f.temperature_cells as u32
+}
+
+// Writes, for each temperature cell, the temperature cell after job i at level j.
+fn map_cells(
+    f: Frame,
+    figures: &[u32; 1672],
+    steady: &[u32; 8],
+    table: &mut [u32],
+    i: u32,
+    j: u32,
+    at: usize,
+)
+    ghost { Sheet }
+    requires { λ s. ⌜ sheetBy f (now figures) ≡ s ⌝ }
+    requires { λ s. ⌜ (Axes s f) × (Stored s (now figures) (now steady)) × (i < s .jobs) × (j < s .levels) ⌝ }
+    requires { λ s. ⌜ (at + temperatureCells s ≤ length (now table)) × (at ≤ 4194304) ⌝ }
+    ensures { λ s r. ⌜ Runs (now (table .entry)) (now (table .exit)) at (temperatureCells s) (nextCell s i j) ⌝ }
+{
+    let step = f.temperature_step as u64;
+    let width = f.temperature_cells;
+    let mut b: usize = 0;
+    while b < width {
+        let c = step::next_job(Run::fresh(i, j, 0, b as u64 * step), figures, steady, j);
+        table[at + b] = cell_of(f, c.temperature);
+        b += 1;
+    }
+}
+
+// Writes what follows job i at level j in the place of that level's words. The map of temperature cells stands in the last row
+// until that row is written itself.
+fn expand_level(
+    f: Frame,
+    figures: &[u32; 1672],
+    steady: &[u32; 8],
+    table: &mut [u32],
+    i: u32,
+    j: u32,
+)
+    ghost { Sheet }
+    requires { λ s. ⌜ sheetBy f (now figures) ≡ s ⌝ }
+    requires { λ s. ⌜ (Axes s f) × (Stored s (now figures) (now steady)) × (need s ≤ length (now table)) ⌝ }
+    requires { λ s. ⌜ (i < s .jobs) × (j < s .levels) × (Holds s (now table) (suc i)) ⌝ }
+    ensures { λ s r. ⌜ Follows s i j (now (table .entry)) (now (table .exit)) ⌝ }
+{
+    let rows = f.energy_cells;
+    let width = f.temperature_cells;
+    let levels = f.levels as usize;
+    let at = (i as usize * levels + j as usize) * rows * width;
+    map_cells(f, figures, steady, table, i, j, at + (rows - 1) * width);
+    if i + 1 < f.jobs {
+        expand::gather_rows(table, at, rows, width, at + levels * rows * width);
+    } else {
+        expand::finish_rows(table, at, rows, width);
+    }
+}
+
+// The same for all levels.
+fn expand_job(f: Frame, figures: &[u32; 1672], steady: &[u32; 8], table: &mut [u32], i: u32)
+    ghost { Sheet }
+    requires { λ s. ⌜ sheetBy f (now figures) ≡ s ⌝ }
+    requires { λ s. ⌜ (Axes s f) × (Stored s (now figures) (now steady)) × (need s ≤ length (now table)) ⌝ }
+    requires { λ s. ⌜ (i < s .jobs) × (Holds s (now table) (suc i)) ⌝ }
+    ensures { λ s r. ⌜ Ahead s i (s .levels) (now (table .exit)) ⌝ }
+    ensures { λ s r. ⌜ Kept (base s i 0) (base s (suc i) 0) (now (table .entry)) (now (table .exit)) ⌝ }
+{
+    let levels = f.levels;
+    let mut j: u32 = 0;
+    while j < levels {
+        expand_level(f, figures, steady, table, i, j);
+        j += 1;
+    }
+}
+
+// Works out the words of job i: what follows each level, and then the least over the moves to it.
+fn fill_job(
+    f: Frame,
+    figures: &[u32; 1672],
+    steady: &[u32; 8],
+    table: &mut [u32],
+    shifts: &mut [u32],
+    reaches: &mut [u32],
+    times: &mut [u32],
+    part: &mut [u32],
+    i: u32,
+)
+    ghost { Sheet }
+    requires { λ s. ⌜ sheetBy f (now figures) ≡ s ⌝ }
+    requires { λ s. ⌜ (Axes s f) × (Stored s (now figures) (now steady)) × (need s ≤ length (now table)) ⌝ }
+    requires { λ s. ⌜ (64 ≤ length (now shifts)) × (64 ≤ length (now reaches)) × (64 ≤ length (now times)) × (2048 ≤ length (now part)) ⌝ }
+    requires { λ s. ⌜ (i < s .jobs) × (FilledFrom s (base s (suc i) 0) (now table) (now table)) ⌝ }
+    ensures { λ s r. ⌜ FilledFrom s (base s i 0) (now (table .entry)) (now (table .exit)) ⌝ }
+{
+    let levels = f.levels as usize;
+    let cells = f.energy_cells * f.temperature_cells;
+    expand_job(f, figures, steady, table, i);
+    find_moves(f, figures, steady, i, shifts, reaches, times);
+    let at = i as usize * levels * cells;
+    relax::relax_words(table, part, at, levels, cells, shifts, reaches, times);
+}
+
+// Fills the table, from the last job to the first, so that a job finds the words of the next.
+pub fn fill(f: Frame, figures: &[u32; 1672], steady: &[u32; 8], table: &mut [u32])
+    ghost { Sheet }
+    requires { λ s. ⌜ sheetBy f (now figures) ≡ s ⌝ }
+    requires { λ s. ⌜ (Axes s f) × (Stored s (now figures) (now steady)) × (need s ≤ length (now table)) ⌝ }
+    ensures { λ s r. ⌜ now (table .exit) ≡ filled s (now (table .entry)) ⌝ }
+{
+    let mut shifts = [0u32; 64];
+    let mut reaches = [0u32; 64];
+    let mut times = [0u32; 64];
+    let mut part = [0u32; 2048];
+    let mut i = f.jobs;
+    while 0 < i {
+        i -= 1;
+        fill_job(
+            f,
+            figures,
+            steady,
+            table,
+            &mut shifts,
+            &mut reaches,
+            &mut times,
+            &mut part,
+            i,
+        );
+    }
+}

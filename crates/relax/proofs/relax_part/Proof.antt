@@ -1,0 +1,40 @@
+use Prim.Native.Nat.{ℕ, _+_, _-_, _≤_}
+use native.Mathlib.Nat.{le-antisymm}
+use native.Mathlib.Omega.{arith}
+use Rattle.relax.specs.Levels.{relaxedAt, Parted}
+use Rattle.relax.proofs.Leveling.{parted-none, parted-more}
+use Rattle.relax.proofs.relax_part.Statement.{statement}
+use Rattle.relax.proofs.relax_part.Tie as tie
+
+abbrev Inv-loop : tie.InvT-loop
+Inv-loop table part₀ at levels cells shifts reaches times x n p₀ part p =
+    (p ≤ levels) × Parted part₀ part p n (λ (k q : ℕ). relaxedAt shifts reaches times table levels cells at k levels (x + q))
+
+abbrev μ-loop : tie.MeasureT-loop
+μ-loop table part₀ at levels cells shifts reaches times x n p₀ part p = levels - p
+
+loop-holds : tie.Need-loop-holds Inv-loop μ-loop
+loop-holds c = (omega arith, parted-none _ _ _)
+
+relax-level-requires : tie.Need-relax-level-requires Inv-loop μ-loop
+relax-level-requires c κs =
+    let a = c .before .before .before .before .before .before .before .before .pre in
+    (a .0, ((a .1 .0 .0, a .1 .0 .1, omega (arith, a .1 .0 .2, c .before .before .loop .inv .1 .long)), (c .before .loop-test .taken, a .1 .1 .0, a .1 .1 .1, a .1 .1 .2)))
+
+add-p : tie.Need-add-p Inv-loop μ-loop
+add-p c = omega (arith, c .before .before .before .before .loop-test .taken, c .before .before .before .before .before .before .before .before .before .before .before .pre .0 .most)
+
+loop-less : tie.Need-loop-less Inv-loop μ-loop
+loop-less c = omega (arith, c .before .before .before .before .loop-test .taken)
+
+loop-again : tie.Need-loop-again Inv-loop μ-loop
+loop-again c = (omega (arith, c .before .before .before .before .loop-test .taken), parted-more (c .before .before .before .before .before .before .before .before .before .before .before .pre .1 .1 .0) (c .before .before .before .before .before .loop .inv .1) (c .before .before .relax-level .ensures))
+
+same-length : tie.Need-same-length Inv-loop μ-loop
+same-length c = c .before .loop .inv .1 .long
+
+returns : tie.Need-returns Inv-loop μ-loop
+returns c = rw (le-antisymm (c .before .loop .inv .0) (c .loop-test .left)) at (c .before .loop .inv .1)
+
+pub relax-part-spec : {M : Type 1} → statement M
+relax-part-spec = tie.close (tie.spec Inv-loop μ-loop loop-holds relax-level-requires add-p loop-less loop-again same-length returns)

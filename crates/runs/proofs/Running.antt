@@ -1,0 +1,44 @@
+-- A loop that sets a run of words one by one: none, one more, all.
+-- Assumes nothing.
+use mathlib.Core.Path.{_≡_, refl, _∙_}
+use mathlib.Core.Logic.{_⊎_, inl, inr, ⊎-elim}
+use mathlib.Core.List.{List}
+use Prim.Native.Nat.{ℕ, _+_, _≤_, _<_}
+use native.Mathlib.Nat.{eq-or-lt-of-le, le-antisymm}
+use native.Mathlib.Omega.{arith}
+use lib.ListN.{length, getD, set, length-set}
+use lib.Seq.{getD-set-same, getD-set-other}
+use Rattle.runs.specs.Runs.{Runs}
+
+pub runs-none : (ws : List ℕ) (at : ℕ) (f : ℕ → ℕ) → Runs ws ws at 0 f
+runs-none ws at f = record { long = refl; inside = λ k h. absurd (omega arith); outside = λ q h. refl }
+
+-- A place outside a run is outside the run without its last word, and is not that word's.
+outside-less : (at k q : ℕ) → (q < at) ⊎ (at + (k + 1) ≤ q) → (q < at) ⊎ (at + k ≤ q)
+outside-less at k q (inl h) = inl h
+outside-less at k q (inr h) = inr (omega arith)
+
+outside-last : (at k q : ℕ) → (q < at) ⊎ (at + (k + 1) ≤ q) → q ≡ at + k → ⊥
+outside-last at k q (inl h) e = absurd (omega arith)
+outside-last at k q (inr h) e = absurd (omega arith)
+
+module _ {old new : List ℕ} {at k : ℕ} {f : ℕ → ℕ} (w : Runs old new at k f) where
+  -- What stands behind the words that are set is as it was.
+  pub runs-behind : (q : ℕ) → at + k ≤ q → getD new q 0 ≡ getD old q 0
+  runs-behind q h = w .outside q (inr h)
+
+  pub runs-room : {n : ℕ} → k < n → at + n ≤ length old → at + k < length new
+  runs-room h room = omega (arith, w .long)
+
+  pub runs-more : {n : ℕ} → k < n → at + n ≤ length old → (v : ℕ) → v ≡ f k → Runs old (set new (at + k) v) at (k + 1) f
+  runs-more h room v e =
+      record {
+        long = length-set new (at + k) v ∙ w .long;
+        inside =
+            λ q l. let g : q ≤ k = omega arith in
+            ⊎-elim (λ z. rw z (getD-set-same new (at + k) v 0 (runs-room h room) ∙ e)) (λ z. getD-set-other new (at + k) (at + q) v 0 (λ i. absurd (omega arith)) ∙ w .inside q z) (eq-or-lt-of-le g);
+        outside = λ q l. getD-set-other new (at + k) q v 0 (outside-last at k q l) ∙ w .outside q (outside-less at k q l);
+      }
+
+  pub runs-all : {n : ℕ} → k ≤ n → n ≤ k → Runs old new at n f
+  runs-all h l = rw (le-antisymm h l) at w
