@@ -1,0 +1,22 @@
+// The planners that are compared.
+#ifndef PROGRAMS_H
+#define PROGRAMS_H
+
+#include <stddef.h>
+#include <stdint.h>
+
+typedef int64_t plan_call(const uint8_t *sheet, size_t sheet_len, uint32_t *table, size_t table_len, uint8_t *levels,
+                          size_t levels_len);
+typedef int64_t text_call(const uint8_t *sheet, size_t sheet_len, uint8_t *text, size_t text_len);
+
+struct program {
+    const char *name;
+    plan_call *plan;
+    text_call *text;
+};
+
+enum { PROGRAMS = 4, HOISTED = 2 };
+
+extern const struct program programs[PROGRAMS];
+
+#endif
