@@ -9,18 +9,13 @@ const FAR: u32 = 2_000_000_000;
 // "4,294,967,295 where no way exists"
 const NO_WAY: u32 = 4_294_967_295;
 
-// The lesser of o and c + g. The difference as a signed number compares without the detour that an unsigned comparison of
-// four words takes.
+// The lesser of o and c + g. Both are below 2 ^ 31, so they compare as signed numbers too, and four at a time without a detour.
 fn lower(o: u32, g: u32, c: u32) -> u32
     requires { ⌜ (o ≤ far) × (g ≤ far) × (c ≤ 20000000) ⌝ }
     ensures { λ r. ⌜ r ≡ min o (c + g) ⌝ }
 {
     let v = g + c;
-    if std::num::wrapping_sub_u32(v, o) < 2147483648 {
-        o
-    } else {
-        v
-    }
+    if (o as i32) < (v as i32) { o } else { v }
 }
 
 // A word once its job is done.
