@@ -106,6 +106,26 @@ def memory_table(rows):
     return markdown(["bytes", "target at most", *PROGRAMS.values()], lines)
 
 
+def worst(rows, tables, figure, program):
+    """The largest of Begbija's figures divided by a program's, over all sheets."""
+    return max(values["begbija"] / values[program] for _, values in by_shape(rows, tables, figure))
+
+
+def targets_table(rows):
+    sheets = ("logger", "full")
+    lines = []
+    for what, tables, figure, program, target in (
+        ("fill and walk", sheets, "fill", "plain", 0.15),
+        ("fill and walk", sheets, "fill", "hoisted_o2", 1.0),
+        ("fill and walk", sheets, "fill", "hoisted_o3", 1.5),
+        ("logger's call", ("logger",), "text", "hoisted_o2", 1.0),
+        ("reader, longest sheet", ("longest",), "reader", "plain", 1.2),
+    ):
+        ratio = worst(rows, tables, figure, program)
+        lines.append([what, PROGRAMS[program], f"{target:.2f}", f"{ratio:.2f}", "yes" if ratio <= target else "no"])
+    return markdown(["time of", "beside", "target at most", "worst sheet", "met"], lines)
+
+
 def first_line(*command):
     return subprocess.run(command, capture_output=True, text=True, check=True).stdout.splitlines()[0]
 
@@ -226,6 +246,7 @@ def main():
     rows = read_results(sys.argv[1])
     sections = {
         "machine": machine_table(),
+        "targets": targets_table(rows),
         "times": times_table(rows),
         "instructions": instructions_table(rows),
         "memory": memory_table(rows),

@@ -5,9 +5,7 @@ ghost use lib.Dec.{ltb};
 ghost use lib.ListN.{length, getD};
 ghost use Rattle.runs.specs.Runs.{far, near, Runs};
 ghost use Rattle.expand.specs.Rows.{gathered, finished};
-
-// Stands for "no way" while the words of a job are worked on.
-const FAR: u32 = 2_000_000_000;
+use runs::FAR;
 
 // A word of the next job, at most `far`.
 fn cap(w: u32) -> u32

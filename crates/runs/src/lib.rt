@@ -4,7 +4,7 @@ ghost use lib.ListN.{length, getD};
 ghost use Rattle.runs.specs.Runs.{far, settled, Runs, Low};
 
 // Stands for "no way" while the words of a job are worked on.
-const FAR: u32 = 2_000_000_000;
+pub const FAR: u32 = 2_000_000_000;
 
 // "4,294,967,295 where no way exists"
 const NO_WAY: u32 = 4_294_967_295;
