@@ -35,8 +35,7 @@ fn put_jobs(s: &[u8], r: Reading, levels: &[u8], text: &mut [u8], at: usize) -> 
     ensures { λ q. ⌜ Wrote (now (text .entry)) at (jobLines (nameOf (now (s .entry))) (frameOf r) 0 (start (frameOf r)) (take (r .jobs) (now (levels .entry)))) (now (text .exit)) q ⌝ }
     ensures { λ q. ⌜ q ≤ at + r .jobs * 63 ⌝ }
 {
-    let figures = r.figures;
-    let states = step::steady_states(&figures, r.resistance);
+    let states = step::steady_states(&r.figures, r.resistance);
     let steady = states.levels;
     let l = r.levels as usize;
     let mut run = Run::start(r.start_level, r.start_temperature as u64);
@@ -44,7 +43,7 @@ fn put_jobs(s: &[u8], r: Reading, levels: &[u8], text: &mut [u8], at: usize) -> 
     let mut q = at;
     let mut i: usize = 0;
     while i < r.jobs as usize {
-        run = step::next_job(run, &figures, &steady, levels[i] as u32);
+        run = step::next_job(run, &r.figures, &steady, levels[i] as u32);
         q = put_job(s, p, text, q, run);
         p = names::skip_lines(s, p, l + 1);
         i += 1;

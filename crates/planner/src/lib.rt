@@ -118,10 +118,9 @@ fn plan_frame(r: Reading, f: Frame, table: &mut [u32], part: &mut [u8]) -> Reply
     requires { ⌜ (Ranges (frameOf r)) × (f ≡ axesOf r) × (need (frameOf r) ≤ 4194304) × (need (frameOf r) ≤ length (now table)) × (r .jobs ≤ length (now part)) ⌝ }
     ensures { λ q. ⌜ Answers (found (frameOf r) (frameOutcome (frameOf r))) (now (table .entry)) (now (table .exit)) (now (part .entry)) (now (part .exit)) q ⌝ }
 {
-    let figures = r.figures;
-    let states = step::steady_states(&figures, r.resistance);
+    let states = step::steady_states(&r.figures, r.resistance);
     let steady = states.levels;
-    if find_plan(f, &figures, &steady, table, part) {
+    if find_plan(f, &r.figures, &steady, table, part) {
         let run = step::run_levels(r, part, r.jobs as usize);
         return Reply {
             refusal: 0,

@@ -79,13 +79,12 @@ pub fn run_levels(r: Reading, levels: &[u8], n: usize) -> Run
     requires { ⌜ (Ranges (frameOf r)) × (n ≤ 64) × (n ≤ length (now levels)) × ((i : ℕ) → i < n → getD (now levels) i 0 < 8) ⌝ }
     ensures { λ q. ⌜ stateOf q ≡ exactRun (frameOf r) (start (frameOf r)) (take n (now (levels .entry))) ⌝ }
 {
-    let figures = r.figures;
-    let states = steady_states(&figures, r.resistance);
+    let states = steady_states(&r.figures, r.resistance);
     let steady = states.levels;
     let mut st = Run::start(r.start_level, r.start_temperature as u64);
     let mut i: usize = 0;
     while i < n {
-        st = next_job(st, &figures, &steady, levels[i] as u32);
+        st = next_job(st, &r.figures, &steady, levels[i] as u32);
         i += 1;
     }
     st

@@ -20,25 +20,25 @@ use Rattle.step.proofs.steady_states.Reads as steady-states-reads
 
 -- src/lib.rt:122:9
 steady-states-requires : tie.Need-steady-states-requires
-steady-states-requires c κs = λ j h. let a = c .before .before .before .before in rw (steady-in (a .args .r) j h) (a .pre .0 .steady j)
+steady-states-requires c κs = λ j h. let a = c .before .before .before .before in rw (steady-in (a .args .t1) j h) (a .pre .0 .steady j)
 
 -- The store and the steady-state temperatures are those of the sheet that was read.
-stored : (c : tie.After-steady-states) → let r = c .before .before .before .before .before .args .r in Stored (frameOf r) (r .figures) (c .steady-states .result .levels)
+stored : (c : tie.After-steady-states) → let r = c .before .before .before .before .before .args .t1 in Stored (frameOf r) (r .figures) (c .steady-states .result .levels)
 stored c = rw (ap (λ (q : Steady). q .levels) (c .steady-states .ensures)) (read-stored _)
 
 -- src/lib.rt:124:8
 find-plan-requires : tie.Need-find-plan-requires
 find-plan-requires c κs =
-    let a = c .before .before .before .before .before .before .before .before .before .before in
+    let a = c .before .before .before .before .before .before .before .before .before .before .before in
     let p = a .pre in
-    ready (a .args .r) (a .args .f) (p .1) (p .0) (p .2) _ (stored (c .before .before .before .before .before)) _ _ (p .3) (p .4)
+    ready (a .args .t1) (a .args .f) (p .1) (p .0) (p .2) _ (stored (c .before .before .before .before .before .before)) _ _ (p .3) (p .4)
 
 -- What was found, on the sheet that was read.
-finds : (c : tie.After-find-plan) → let a = c .before .before .before .before .before .before .before .before .before .before .before .args in
-    Finds (frameOf (a .r)) (now (a .table)) (c .find-plan .last .1 .1 .1 .0) (now (a .part)) (c .find-plan .last .1 .1 .1 .1 .0) (c .find-plan .result)
+finds : (c : tie.After-find-plan) → let a = c .before .before .before .before .before .before .before .before .before .before .before .before .args in
+    Finds (frameOf (a .t1)) (now (a .table)) (c .find-plan .last .1 .1 .1 .0) (now (a .part)) (c .find-plan .last .1 .1 .1 .1 .0) (c .find-plan .result)
 finds c =
-    let a = c .before .before .before .before .before .before .before .before .before .before .before in
-    subst (λ (s : Sheet). Finds s (now (a .args .table)) (c .find-plan .last .1 .1 .1 .0) (now (a .args .part)) (c .find-plan .last .1 .1 .1 .1 .0) (c .find-plan .result)) (same-sheet (a .args .r) (a .args .f) (a .pre .1)) (c .find-plan .ensures)
+    let a = c .before .before .before .before .before .before .before .before .before .before .before .before in
+    subst (λ (s : Sheet). Finds s (now (a .args .table)) (c .find-plan .last .1 .1 .1 .0) (now (a .args .part)) (c .find-plan .last .1 .1 .1 .1 .0) (c .find-plan .result)) (same-sheet (a .args .t1) (a .args .f) (a .pre .1)) (c .find-plan .ensures)
 
 -- src/lib.rt:125:45
 cast-run-levels : tie.Need-cast-run-levels
@@ -50,7 +50,7 @@ unfolding frameOf
 run-levels-requires c κs =
     let a = c .before .before .before .before .before .before .before .before .before .before .before .before .before .before .before .before .before .before in
     let ok = a .pre .0 in
-    (ok, ok .jobs .high, omega (arith, a .pre .4, c .before .before .before .before .before .before .before .find-plan .kept .1 .1 .1 .1 .0), plan-levels ok _ (c .before .before .if1 .taken) (finds (c .before .before .before .before .before .before .before)))
+    (ok, ok .jobs .high, omega (arith, a .pre .4, c .before .before .before .before .before .before .find-plan .kept .1 .1 .1 .1 .0), plan-levels ok _ (c .before .if1 .taken) (finds (c .before .before .before .before .before .before)))
 
 -- src/lib.rt:126:9
 same-length : tie.Need-same-length
@@ -65,7 +65,7 @@ returns : tie.Need-returns
 unfolding frameOf
 returns c =
     let a = c .before .before .before .before .before .before .before .before .before .before .before .before .before .before .before .before .before .before .before in
-    answers-plan (a .pre .0) _ (c .before .before .before .if1 .taken) (finds (c .before .before .before .before .before .before .before .before)) _ _ (c .run-levels .ensures) refl
+    answers-plan (a .pre .0) _ (c .before .before .if1 .taken) (finds (c .before .before .before .before .before .before .before)) _ _ (c .run-levels .ensures) refl
 
 -- src/lib.rt:136:5
 refuse-requires : tie.Need-refuse-requires
@@ -81,7 +81,7 @@ same-length-4 c = search needs
 
 -- src/lib.rt:117:1
 returns-2 : tie.Need-returns-2
-returns-2 c = let a = c .before .before .before .before .before .before .before .before .before .before .before .before .before .before .before .before .before in answers-none (a .pre .0) _ (c .before .if1 .left) (finds (c .before .before .before .before .before .before)) _ (c .refuse .ensures)
+returns-2 c = let a = c .before .before .before .before .before .before .before .before .before .before .before .before .before .before .before .before .before .before in answers-none (a .pre .0) _ (c .before .if1 .left) (finds (c .before .before .before .before .before .before)) _ (c .refuse .ensures)
 
 pub plan-frame-spec : {M : Type 1} → statement M
 plan-frame-spec =
