@@ -22,7 +22,7 @@ use Rattle.sheet.specs.Frame.{frameOf}
 use Rattle.sheet.proofs.Ranges.{read-ranges}
 use Rattle.planner.specs.declared.Reply.{Reply}
 use Rattle.planner.proofs.Replies.{accepted-refused}
-use Rattle.planner.specs.Answer.{refused, found, answerFor, accepted, answerOf, refusedAs, plannedAs, Answers}
+use Rattle.planner.specs.Answer.{refused, found, answerFor, accepted, answerTo, answerOf, refusedAs, plannedAs, Answers}
 use Rattle.planner.specs.Demands.{Enough, planIn, Fixed, Demand3, Demands}
 
 module _ {s : Sheet} {words bytes : ℕ} {part : List ℕ} {r : Reply} where
@@ -178,7 +178,7 @@ on-passed s ok n words words' bytes bytes' r a =
 
 pub demands-hold : (sheet words words' bytes bytes' : List ℕ) (r : Reply) →
     Answers (answerOf sheet (length words) (length bytes)) words words' bytes bytes' r → Demands sheet (length words) (length bytes) bytes' r
-unfolding answerOf
+unfolding answerTo answerOf
 demands-hold sheet words words' bytes bytes' r a =
     record {
       fails = λ h.

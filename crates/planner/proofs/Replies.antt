@@ -1,6 +1,6 @@
 -- The reply to a frame that is looked at: from the start state's word and the walk's part to the answer.
 -- Assumes nothing.
-use mathlib.Core.Path.{_≡_, refl, sym, ap, _∙_}
+use mathlib.Core.Path.{_≡_, refl, sym, ap, subst, _∙_}
 use mathlib.Core.Bool.{Bool, true, false, true≢false}
 use mathlib.Core.List.{List, [], _∷_, _++_}
 use Prim.Native.Nat.{ℕ, zero, suc, _+_, _-_, _*_, _≤_, _<_, _^_}
@@ -35,7 +35,7 @@ use Rattle.table.proofs.Lookup.{rest-by, rest-least, looks}
 use Rattle.table.proofs.Cells.{filled-words}
 use Rattle.walk.specs.Walk.{Starts}
 use Rattle.planner.specs.declared.Reply.{Reply}
-use Rattle.planner.specs.Answer.{Answer, refused, found, answerFor, accepted, answerOf, refusedAs, tableOf, partOf, Answers}
+use Rattle.planner.specs.Answer.{Answer, refused, found, answerFor, accepted, answerTo, answerOf, refusedAs, tableOf, partOf, Answers}
 use Rattle.planner.specs.Inner.{isPlan, axesOf, Finds}
 
 -- A quotient that is rounded up is no larger than what is divided.
@@ -230,41 +230,47 @@ accepted-refused (Range line field) go h = refl
 accepted-refused Hot go h = refl
 accepted-refused (Trailing line) go h = refl
 
-module _ (sheet words bytes : List ℕ) (r : Reading) (e : r ≡ sheetOf sheet) (q : Reply) where
+module _ (words bytes : List ℕ) (r : Reading) (q : Reply) where
   -- Nothing lent is written.
-  turned-away : (number line field : ℕ) → answerOf sheet (length words) (length bytes) ≡ refused number line field → q ≡ refusedAs number line field →
-      Answers (answerOf sheet (length words) (length bytes)) words words bytes bytes q
+  turned-away : (number line field : ℕ) → answerTo r (length words) (length bytes) ≡ refused number line field → q ≡ refusedAs number line field →
+      Answers (answerTo r (length words) (length bytes)) words words bytes bytes q
   turned-away number line field a h = rw a (record { reply = h; table = refl; part = refl; peak = tt })
 
   pub answers-sheet : Refuses (r .refusal) → q ≡ refusedAs (numberOf (r .refusal)) (lineOf (r .refusal)) (fieldOf (r .refusal)) →
-      Answers (answerOf sheet (length words) (length bytes)) words words bytes bytes q
-  unfolding answerOf
-  answers-sheet h k = turned-away _ _ _ (rw (sym e) (accepted-refused (r .refusal) _ (refuses-some (r .refusal) h))) k
+      Answers (answerTo r (length words) (length bytes)) words words bytes bytes q
+  unfolding answerTo
+  answers-sheet h k = turned-away _ _ _ (accepted-refused (r .refusal) _ (refuses-some (r .refusal) h)) k
 
   module _ (m : r .refusal ≡ Nothing) where
-    passed : answerOf sheet (length words) (length bytes) ≡ answerFor (frameOf r) (length words) (length bytes)
-    unfolding answerOf
-    passed = rw (sym e) (ap (λ (f : Refusal). accepted f (answerFor (frameOf r) (length words) (length bytes))) m)
+    passed : answerTo r (length words) (length bytes) ≡ answerFor (frameOf r) (length words) (length bytes)
+    unfolding answerTo
+    passed = ap (λ (f : Refusal). accepted f (answerFor (frameOf r) (length words) (length bytes))) m
 
     module _ (n : ℕ) (k : n ≡ need (frameOf r)) where
-      pub answers-seven : 4194304 < n → q ≡ refusedAs 7 0 0 → Answers (answerOf sheet (length words) (length bytes)) words words bytes bytes q
+      pub answers-seven : 4194304 < n → q ≡ refusedAs 7 0 0 → Answers (answerTo r (length words) (length bytes)) words words bytes bytes q
       unfolding answerFor
       answers-seven h z = turned-away 7 0 0 (passed ∙ rw (← k, lt-ltb 4194304 n h) refl) z
 
       module _ (a : n ≤ 4194304) where
-        pub answers-eight : length words < n → q ≡ refusedAs 8 0 0 → Answers (answerOf sheet (length words) (length bytes)) words words bytes bytes q
+        pub answers-eight : length words < n → q ≡ refusedAs 8 0 0 → Answers (answerTo r (length words) (length bytes)) words words bytes bytes q
         unfolding answerFor
         answers-eight h z = turned-away 8 0 0 (passed ∙ rw (← k, le-ltb 4194304 n a, lt-ltb (length words) n h) refl) z
 
         module _ (b : n ≤ length words) where
-          pub answers-nine : length bytes < r .jobs → q ≡ refusedAs 9 0 0 → Answers (answerOf sheet (length words) (length bytes)) words words bytes bytes q
+          pub answers-nine : length bytes < r .jobs → q ≡ refusedAs 9 0 0 → Answers (answerTo r (length words) (length bytes)) words words bytes bytes q
           unfolding answerFor frameOf
           answers-nine h z = turned-away 9 0 0 (passed ∙ rw (← k, le-ltb 4194304 n a, le-ltb (length words) n b, lt-ltb (length bytes) (r .jobs) h) refl) z
 
           pub answers-looked : (words' bytes' : List ℕ) → r .jobs ≤ length bytes → Answers (found (frameOf r) (frameOutcome (frameOf r))) words words' bytes bytes' q →
-              Answers (answerOf sheet (length words) (length bytes)) words words' bytes bytes' q
+              Answers (answerTo r (length words) (length bytes)) words words' bytes bytes' q
           unfolding answerFor frameOf
           answers-looked words' bytes' h z =
               let p : answerFor (frameOf r) (length words) (length bytes) ≡ found (frameOf r) (frameOutcome (frameOf r)) =
               rw (← k, le-ltb 4194304 n a, le-ltb (length words) n b, le-ltb (length bytes) (r .jobs) h) refl in
               rw (passed ∙ p) z
+
+-- The same of what the reader hands back.
+pub answers-read : (sheet words words' bytes bytes' : List ℕ) (r : Reading) (q : Reply) → r ≡ sheetOf sheet →
+    Answers (answerTo r (length words) (length bytes)) words words' bytes bytes' q → Answers (answerOf sheet (length words) (length bytes)) words words' bytes bytes' q
+unfolding answerOf
+answers-read sheet words words' bytes bytes' r q e a = subst (λ (x : Reading). Answers (answerTo x (length words) (length bytes)) words words' bytes bytes' q) e a

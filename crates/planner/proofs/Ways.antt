@@ -24,7 +24,7 @@ use Rattle.sheet.specs.Reading.{numberOf, sheetOf}
 use Rattle.sheet.specs.Frame.{frameOf}
 use Rattle.sheet.proofs.Ranges.{read-ranges}
 use Rattle.planner.specs.declared.Reply.{Reply}
-use Rattle.planner.specs.Answer.{Answer, refused, found, answerFor, turnedAway, accepted, answerOf, replyOf, PeakOf, tableOf, partOf, Answers}
+use Rattle.planner.specs.Answer.{Answer, refused, found, answerFor, turnedAway, accepted, answerTo, answerOf, replyOf, PeakOf, tableOf, partOf, Answers}
 use Rattle.planner.specs.Demands.{Demands}
 use Rattle.planner.proofs.Demands.{demands-hold}
 
@@ -53,7 +53,7 @@ module _ (P : Answer → Type 0) where
         (let f = (sheetOf t) .refusal in 1 ≤ numberOf f → numberOf f ≤ 6 → P (turnedAway f)) →
         ((sheetOf t) .refusal ≡ Nothing → bytes < (frameOf (sheetOf t)) .jobs → P (refused 9 0 0)) →
         ((sheetOf t) .refusal ≡ Nothing → P (found (frameOf (sheetOf t)) (frameOutcome (frameOf (sheetOf t))))) → P (answerOf t words bytes)
-    unfolding answerOf
+    unfolding answerTo answerOf
     answer-ways t words bytes a nine h = reading ((sheetOf t) .refusal) _ a (λ e. frame-ways (frameOf (sheetOf t)) words bytes (nine e) (h e))
 
 -- ---- the answer's own reply, with the peak of the plan's run

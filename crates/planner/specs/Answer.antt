@@ -46,11 +46,13 @@ accepted (Range line field) go = turnedAway (Range line field)
 accepted Hot go = turnedAway Hot
 accepted (Trailing line) go = turnedAway (Trailing line)
 
--- The answer to a sheet, with a table of so many words and a part of so many bytes.
+-- The answer to a sheet that was read, with a table of so many words and a part of so many bytes.
+unfoldable pub answerTo : Reading → ℕ → ℕ → Answer
+answerTo r words bytes = accepted (r .refusal) (answerFor (frameOf r) words bytes)
+
+-- The answer to a sheet.
 unfoldable pub answerOf : List ℕ → ℕ → ℕ → Answer
-answerOf sheet words bytes =
-    let r : Reading = sheetOf sheet in
-    accepted (r .refusal) (answerFor (frameOf r) words bytes)
+answerOf sheet words bytes = answerTo (sheetOf sheet) words bytes
 
 -- "Every figure of a refused reply not named is 0."
 abbrev pub refusedAs : ℕ → ℕ → ℕ → Reply

@@ -4,9 +4,10 @@ ghost use lib.ListN.{length};
 ghost use Rattle.frame.specs.Sheet.{Sheet, Ranges};
 ghost use Rattle.frame.specs.Plan.{frameOutcome};
 ghost use Rattle.frame.specs.Table.{need};
+ghost use Rattle.sheet.specs.declared.Refusal.the-variants.{Nothing};
 ghost use Rattle.sheet.specs.Reading.{numberOf, lineOf, fieldOf};
 ghost use Rattle.sheet.specs.Frame.{frameOf};
-ghost use Rattle.planner.specs.Answer.{found, answerOf, refusedAs, Answers};
+ghost use Rattle.planner.specs.Answer.{found, answerTo, answerOf, refusedAs, Answers};
 ghost use Rattle.planner.specs.Inner.{Finds, axesOf};
 ghost use Rattle.step.specs.Store.{Stored};
 ghost use Rattle.table.specs.Table.{sheetBy, Axes};
@@ -135,12 +136,11 @@ fn plan_frame(r: Reading, f: Frame, table: &mut [u32], part: &mut [u8]) -> Reply
     refuse(10, 0, 0)
 }
 
-// Plans a sheet: levels to `part`, least times to `table`.
-pub fn plan(s: &[u8], table: &mut [u32], part: &mut [u8]) -> Reply
-    ensures { λ q. ⌜ Answers (answerOf (now (s .entry)) (length (now (table .entry))) (length (now (part .entry)))) (now (table .entry)) (now (table .exit)) (now (part .entry)) (now (part .exit)) q ⌝ }
-    ensures { λ q. ⌜ Demands (now (s .entry)) (length (now (table .entry))) (length (now (part .entry))) (now (part .exit)) q ⌝ }
+// Plans a sheet that was read: levels to `part`, least times to `table`.
+pub fn plan_read(r: Reading, table: &mut [u32], part: &mut [u8]) -> Reply
+    requires { ⌜ (r .refusal ≡ Nothing → Ranges (frameOf r)) ⌝ }
+    ensures { λ q. ⌜ Answers (answerTo r (length (now (table .entry))) (length (now (part .entry)))) (now (table .entry)) (now (table .exit)) (now (part .entry)) (now (part .exit)) q ⌝ }
 {
-    let r = sheet::read(s);
     let refusal = r.refusal;
     let Refusal::Nothing = refusal else {
         return refuse_sheet(refusal);
@@ -158,4 +158,13 @@ pub fn plan(s: &[u8], table: &mut [u32], part: &mut [u8]) -> Reply
         return refuse(9, 0, 0);
     }
     plan_frame(r, f, table, part)
+}
+
+// Plans a sheet: levels to `part`, least times to `table`.
+pub fn plan(s: &[u8], table: &mut [u32], part: &mut [u8]) -> Reply
+    ensures { λ q. ⌜ Answers (answerOf (now (s .entry)) (length (now (table .entry))) (length (now (part .entry)))) (now (table .entry)) (now (table .exit)) (now (part .entry)) (now (part .exit)) q ⌝ }
+    ensures { λ q. ⌜ Demands (now (s .entry)) (length (now (table .entry))) (length (now (part .entry))) (now (part .exit)) q ⌝ }
+{
+    let r = sheet::read(s);
+    plan_read(r, table, part)
 }

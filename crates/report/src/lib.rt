@@ -31,7 +31,8 @@ pub fn write_plan(s: &[u8], text: &mut [u8]) -> Report
 {
     let mut table = [0u32; 16384];
     let mut levels = [0u8; 64];
-    let p = planner::plan(s, &mut table, &mut levels);
+    let r = sheet::read(s);
+    let p = planner::plan_read(r, &mut table, &mut levels);
     let refusal = p.refusal;
     let line = p.line;
     let field = p.field;
@@ -46,7 +47,6 @@ pub fn write_plan(s: &[u8], text: &mut [u8]) -> Report
     if 9 < refusal {
         return refuse(10, 0, 0);
     }
-    let r = sheet::read(s);
     let n = plan_text::put_plan(s, r, &levels, text);
     Report {
         refusal: 0,

@@ -1,123 +1,33 @@
-use native.Mathlib.Omega.{arith}
-use denote.Ref.{now}
 use Rattle.sheet.proofs.Ranges.{reading-ranges}
 use Rattle.planner.proofs.Demands.{demands-hold}
-use Rattle.planner.proofs.Replies.{answers-sheet, answers-seven, answers-eight, answers-nine, answers-looked}
+use Rattle.planner.proofs.Replies.{answers-read}
 use borrow.Author.Needs.{needs}
 use Rattle.planner.proofs.plan.Statement.{statement}
 use Rattle.planner.proofs.plan.Tie as tie
 use Rattle.planner.proofs.plan.Reads as reads
 use Rattle.planner.proofs.plan.Lts as lts
-use Rattle.planner.proofs.frame_of.Reads as frame-of-reads
-use Rattle.planner.proofs.need_of.Reads as need-of-reads
-use Rattle.planner.proofs.plan_frame.Reads as plan-frame-reads
-use Rattle.planner.proofs.refuse.Reads as refuse-reads
-use Rattle.planner.proofs.refuse_sheet.Reads as refuse-sheet-reads
+use Rattle.planner.proofs.plan_read.Reads as plan-read-reads
 use Rattle.sheet.proofs.read.Reads as read-reads
 
--- src/lib.rt:123:9
+-- src/lib.rt:168:9
 read-requires : tie.Need-read-requires
 read-requires c κs = search needs
 
-enum-told : tie.Need-enum-told
-enum-told c = search needs
+-- src/lib.rt:169:5
+plan-read-requires : tie.Need-plan-read-requires
+plan-read-requires c κs = reading-ranges _ _ (c .before .before .read .ensures)
 
--- src/lib.rt:126:9
-refuse-sheet-requires : tie.Need-refuse-sheet-requires
-refuse-sheet-requires c κs = search needs
-
--- src/lib.rt:126:9
-returns : tie.Need-returns
-returns c = let a = answers-sheet _ _ _ _ (c .before .before .read .ensures) _ (c .before .match .keys2) (c .refuse-sheet .ensures) in (a, demands-hold _ _ _ _ _ _ a)
-
--- src/lib.rt:128:9
-frame-of-requires : tie.Need-frame-of-requires
-frame-of-requires c κs = reading-ranges _ _ (c .before .before .read .ensures) (c .enum-told .given .1)
-
--- src/lib.rt:129:9
-need-of-requires : tie.Need-need-of-requires
-need-of-requires c κs = (reading-ranges _ _ (c .before .before .before .read .ensures) (c .before .enum-told .given .1), c .frame-of .ensures)
-
--- src/lib.rt:136:21
-cast-jobs : tie.Need-cast-jobs
-cast-jobs c = search needs
-
--- src/lib.rt:131:9
-refuse-requires : tie.Need-refuse-requires
-refuse-requires c κs = search needs
-
--- src/lib.rt:131:9
-returns-2 : tie.Need-returns-2
-returns-2 c =
-    let a = answers-seven _ _ _ _ (c .before .before .before .before .before .before .before .read .ensures) _ (c .before .before .before .before .before .enum-told .given .1) _ (c .before .before .before .need-of .ensures) (omega (arith, c .before .if1 .taken)) (c .refuse .ensures) in
-    (a, demands-hold _ _ _ _ _ _ a)
-
--- src/lib.rt:134:9
-refuse-requires-2 : tie.Need-refuse-requires-2
-refuse-requires-2 c κs = search needs
-
--- src/lib.rt:134:9
-returns-3 : tie.Need-returns-3
-returns-3 c =
-    let m = c .before .before .before .before .before .before .before .before .before .before .before .before .args in
-    let a = answers-eight _ (now (m .table)) (now (m .part)) _ (c .before .before .before .before .before .before .before .before .read .ensures) _ (c .before .before .before .before .before .before .enum-told .given .1) _ (c .before .before .before .before .need-of .ensures) (omega (arith, c .before .before .if1 .left)) (omega (arith, c .before .if2 .taken)) (c .refuse2 .ensures) in
-    (a, demands-hold _ _ _ _ _ _ a)
-
--- src/lib.rt:137:9
-refuse-requires-3 : tie.Need-refuse-requires-3
-refuse-requires-3 c κs = search needs
-
--- src/lib.rt:137:9
-returns-4 : tie.Need-returns-4
-returns-4 c =
-    let m = c .before .before .before .before .before .before .before .before .before .before .before .before .before .args in
-    let a = answers-nine _ (now (m .table)) (now (m .part)) _ (c .before .before .before .before .before .before .before .before .before .read .ensures) _ (c .before .before .before .before .before .before .before .enum-told .given .1) _ (c .before .before .before .before .before .need-of .ensures) (omega (arith, c .before .before .before .if1 .left)) (omega (arith, c .before .before .if2 .left)) (omega (arith, c .before .if3 .taken)) (c .refuse3 .ensures) in
-    (a, demands-hold _ _ _ _ _ _ a)
-
--- src/lib.rt:139:5
-plan-frame-requires : tie.Need-plan-frame-requires
-plan-frame-requires c κs =
-    let k = c .before .before .before .before .before .before .need-of .ensures in (
-      reading-ranges _ _ (c .before .before .before .before .before .before .before .before .before .before .read .ensures) (c .before .before .before .before .before .before .before .before .enum-told .given .1),
-      c .before .before .before .before .before .before .before .frame-of .ensures,
-      omega (arith, k, c .before .before .before .before .if1 .left),
-      omega (arith, k, c .before .before .before .if2 .left),
-      omega (arith, c .before .before .if3 .left),
-    )
-
--- src/lib.rt:119:1
+-- src/lib.rt:164:1
 same-length : tie.Need-same-length
 same-length c = search needs
 
--- src/lib.rt:119:1
+-- src/lib.rt:164:1
 same-length-2 : tie.Need-same-length-2
 same-length-2 c = search needs
 
--- src/lib.rt:119:1
-returns-5 : tie.Need-returns-5
-returns-5 c =
-    let m = c .before .before .before .before .before .before .before .before .before .before .before .before .before .before .before .before .before .before .before .args in
-    let a = answers-looked _ (now (m .table)) (now (m .part)) _ (c .before .before .before .before .before .before .before .before .before .before .before .before .before .before .before .read .ensures) _ (c .before .before .before .before .before .before .before .before .before .before .before .before .before .enum-told .given .1) _ (c .before .before .before .before .before .before .before .before .before .before .before .need-of .ensures) (omega (arith, c .before .before .before .before .before .before .before .before .before .if1 .left)) (omega (arith, c .before .before .before .before .before .before .before .before .if2 .left)) _ _ (omega (arith, c .before .before .before .before .before .before .before .if3 .left)) (c .before .before .before .before .plan-frame .ensures) in
-    (a, demands-hold _ _ _ _ _ _ a)
+-- src/lib.rt:164:1
+returns : tie.Need-returns
+returns c = let a = answers-read _ _ _ _ _ _ _ (c .before .before .before .before .before .before .before .read .ensures) (c .before .before .before .before .plan-read .ensures) in (a, demands-hold _ _ _ _ _ _ a)
 
 pub plan-spec : {M : Type 1} → statement M
-plan-spec =
-    tie.close
-    (tie.spec
-    read-requires
-    enum-told
-    refuse-sheet-requires
-    returns
-    frame-of-requires
-    need-of-requires
-    cast-jobs
-    refuse-requires
-    returns-2
-    refuse-requires-2
-    returns-3
-    refuse-requires-3
-    returns-4
-    plan-frame-requires
-    same-length
-    same-length-2
-    returns-5)
+plan-spec = tie.close (tie.spec read-requires plan-read-requires same-length same-length-2 returns)

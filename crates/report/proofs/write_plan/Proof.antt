@@ -6,7 +6,9 @@ use denote.Ref.{now}
 use Prim.Native.Nat.{_≤_, _<_}
 use mathlib.Core.Logic.{⊎-elim}
 use Rattle.sheet.specs.declared.Reading.{Reading}
+use Rattle.sheet.proofs.Ranges.{reading-ranges}
 use Rattle.planner.specs.Answer.{Answers}
+use Rattle.planner.proofs.Replies.{answers-read}
 use Rattle.report.specs.Report.{answerIn}
 use Rattle.report.proofs.Told.{read-wrote, read-jobs, ranges-jobs, Told, answer-told, told-refused, told-narrow, told-none, told-read, told-levels, told-plan}
 use borrow.Author.Needs.{needs}
@@ -15,113 +17,113 @@ use Rattle.report.proofs.write_plan.Tie as tie
 use Rattle.report.proofs.write_plan.Reads as reads
 use Rattle.report.proofs.write_plan.Lts as lts
 use Rattle.plan_text.proofs.put_plan.Reads as put-plan-reads
-use Rattle.planner.proofs.plan.Reads as plan-reads
+use Rattle.planner.proofs.plan_read.Reads as plan-read-reads
 use Rattle.report.proofs.refuse.Reads as refuse-reads
 use Rattle.sheet.proofs.read.Reads as read-reads
 
--- src/lib.rt:32:30
-slice-aggregate-plan : tie.Need-slice-aggregate-plan
-slice-aggregate-plan c = search needs
+-- src/lib.rt:34:9
+read-requires : tie.Need-read-requires
+read-requires c κs = search needs
 
--- src/lib.rt:32:42
-slice-aggregate-plan-2 : tie.Need-slice-aggregate-plan-2
-slice-aggregate-plan-2 c = search needs
+-- src/lib.rt:35:35
+slice-aggregate-plan-read : tie.Need-slice-aggregate-plan-read
+slice-aggregate-plan-read c = search needs
 
--- src/lib.rt:32:9
-plan-requires : tie.Need-plan-requires
-plan-requires c κs = search needs
+-- src/lib.rt:35:47
+slice-aggregate-plan-read-2 : tie.Need-slice-aggregate-plan-read-2
+slice-aggregate-plan-read-2 c = search needs
 
--- src/lib.rt:37:9
+-- src/lib.rt:35:9
+plan-read-requires : tie.Need-plan-read-requires
+plan-read-requires c κs = reading-ranges _ _ (c .before .before .read .ensures)
+
+-- src/lib.rt:41:13
 refuse-requires : tie.Need-refuse-requires
 refuse-requires c κs = search needs
 
 -- The planner's answer, with the table and the part inside the call.
-answered : (c : tie.After-plan) → let s = now (c .before .before .before .before .before .args .s) in
-    Answers (answerIn s) (replicate 16384 0) (c .plan .last .1 .0) (replicate 64 0) (c .plan .last .1 .1 .0) (c .plan .result)
+answered : (c : tie.After-plan-read) → let s = now (c .before .before .before .before .before .before .args .s) in
+    Answers (answerIn s) (replicate 16384 0) (c .plan-read .last .1 .0) (replicate 64 0) (c .plan-read .last .1 .1 .0) (c .plan-read .result)
 unfolding answerIn
-answered c = c .plan .ensures .0
+answered c = answers-read _ _ _ _ _ _ _ (c .before .before .before .read .ensures) (c .plan-read .ensures)
 
-told : (c : tie.After-plan) → Told (now (c .before .before .before .before .before .args .s)) (answerIn (now (c .before .before .before .before .before .args .s)))
+told : (c : tie.After-plan-read) → Told (now (c .before .before .before .before .before .before .args .s)) (answerIn (now (c .before .before .before .before .before .before .args .s)))
 unfolding answerIn
 told c = answer-told _ 16384
 
--- src/lib.rt:37:9
+-- src/lib.rt:41:13
 returns : tie.Need-returns
 returns c = told-refused _ _ _ _ _ _ _ (answerIn _) (told (c .before .before .before .before .before)) (answered (c .before .before .before .before .before)) (c .before .before .if1 .taken) (c .before .if2 .taken) _ (c .refuse .ensures)
 
--- src/lib.rt:40:9
+-- src/lib.rt:45:9
 refuse-requires-2 : tie.Need-refuse-requires-2
 refuse-requires-2 c κs = search needs
 
 -- Neither of 1 to 9.
-other : (c : tie.Joined1) → 0 < c .before .before .before .plan .result .refusal → 10 ≤ c .before .before .before .plan .result .refusal
+other : (c : tie.Joined1) → 0 < c .before .before .before .plan-read .result .refusal → 10 ≤ c .before .before .before .plan-read .result .refusal
 other c h = ⊎-elim (λ w. omega (arith, w .1 .left)) (λ w. absurd (omega (arith, w .left))) (c .if1 .came)
 
--- src/lib.rt:40:9
+-- src/lib.rt:45:9
 returns-2 : tie.Need-returns-2
 returns-2 c = told-narrow _ _ _ _ _ _ _ (other (c .before .before)) (answerIn _) (told (c .before .before .before .before .before)) (answered (c .before .before .before .before .before)) (c .before .if3 .taken) _ (c .refuse2 .ensures)
 
--- src/lib.rt:43:9
+-- src/lib.rt:48:9
 refuse-requires-3 : tie.Need-refuse-requires-3
 refuse-requires-3 c κs = search needs
 
--- src/lib.rt:43:9
+-- src/lib.rt:48:9
 returns-3 : tie.Need-returns-3
 returns-3 c = told-none _ _ _ _ _ _ _ (other (c .before .before .before)) (c .before .before .if3 .left) (answerIn _) (told (c .before .before .before .before .before .before)) (answered (c .before .before .before .before .before .before)) (omega (arith, c .before .if4 .taken)) _ (c .refuse3 .ensures)
 
--- src/lib.rt:45:9
-read-requires : tie.Need-read-requires
-read-requires c κs = search needs
-
--- src/lib.rt:46:39
+-- src/lib.rt:50:39
 slice-aggregate-put-plan : tie.Need-slice-aggregate-put-plan
 slice-aggregate-put-plan c = search needs
 
 -- What is left is a plan.
-plan-is : (c : tie.Else4) → c .before .before .before .before .before .plan .result .refusal ≡ 0
+plan-is : (c : tie.Else4) → c .before .before .before .before .before .plan-read .result .refusal ≡ 0
 plan-is c =
-    elim (decLt 0 (c .before .before .before .before .before .plan .result .refusal)) [
+    elim (decLt 0 (c .before .before .before .before .before .plan-read .result .refusal)) [
       | yes h ↦ absurd (omega (arith, c .if4 .left, other (c .before .before) h))
       | no h ↦ omega (arith, h)
     ]
 
--- src/lib.rt:46:9
+-- src/lib.rt:50:9
 put-plan-requires : tie.Need-put-plan-requires
 put-plan-requires c κs =
-    let e = c .before .before .read .ensures in
-    let z = plan-is (c .before .before .before) in
+    let e = c .before .before .before .before .before .before .before .before .before .before .read .ensures in
+    let z = plan-is (c .before .before) in
     let s = now (c .before .before .before .before .before .before .before .before .before .before .before .before .before .args .s) in
-    let m = told-read s (now (c .before .before .before .before .before .before .before .before .before .before .before .before .before .args .text)) _ _ _ _ _ z (answerIn _) (told (c .before .before .before .before .before .before .before .before)) (answered (c .before .before .before .before .before .before .before .before)) in
+    let m = told-read s (now (c .before .before .before .before .before .before .before .before .before .before .before .before .before .args .text)) _ _ _ _ _ z (answerIn _) (told (c .before .before .before .before .before .before .before)) (answered (c .before .before .before .before .before .before .before)) in
     let r = ap (λ (x : Reading). x .refusal) e ∙ m in
     let k = ranges-jobs s _ e r in (
       (e, r),
-      (omega (arith, k, c .before .before .before .before .before .before .before .before .plan .kept .1 .1 .0), λ i h. told-levels s (now (c .before .before .before .before .before .before .before .before .before .before .before .before .before .args .text)) _ _ _ _ _ z (answerIn _) (told (c .before .before .before .before .before .before .before .before)) (answered (c .before .before .before .before .before .before .before .before)) i (omega (arith, h, read-jobs s _ e)), c .before .before .before .before .if3 .left),
+      (omega (arith, k, c .before .before .before .before .before .before .before .plan-read .kept .1 .1 .0), λ i h. told-levels s (now (c .before .before .before .before .before .before .before .before .before .before .before .before .before .args .text)) _ _ _ _ _ z (answerIn _) (told (c .before .before .before .before .before .before .before)) (answered (c .before .before .before .before .before .before .before)) i (omega (arith, h, read-jobs s _ e)), c .before .before .before .if3 .left),
     )
 
--- src/lib.rt:26:1
+-- src/lib.rt:27:1
 same-length : tie.Need-same-length
 same-length c = search needs
 
--- src/lib.rt:26:1
+-- src/lib.rt:27:1
 returns-4 : tie.Need-returns-4
 returns-4 c =
-    let e = c .before .before .before .before .before .read .ensures in
-    told-plan _ _ _ _ _ _ _ (plan-is (c .before .before .before .before .before .before)) (answerIn _) (told (c .before .before .before .before .before .before .before .before .before .before .before)) (answered (c .before .before .before .before .before .before .before .before .before .before .before)) (c .before .before .before .before .before .before .before .if3 .left) _ _ _ (c .before .before .put-plan .ensures .1) (read-wrote _ _ _ _ _ _ e (c .before .before .put-plan .ensures .0)) refl
+    let e = c .before .before .before .before .before .before .before .before .before .before .before .before .before .read .ensures in
+    told-plan _ _ _ _ _ _ _ (plan-is (c .before .before .before .before .before)) (answerIn _) (told (c .before .before .before .before .before .before .before .before .before .before)) (answered (c .before .before .before .before .before .before .before .before .before .before)) (c .before .before .before .before .before .before .if3 .left) _ _ _ (c .before .before .put-plan .ensures .1) (read-wrote _ _ _ _ _ _ e (c .before .before .put-plan .ensures .0)) refl
 
 pub write-plan-spec : {M : Type 1} → statement M
 write-plan-spec =
     tie.close
     (tie.spec
-    slice-aggregate-plan
-    slice-aggregate-plan-2
-    plan-requires
+    read-requires
+    slice-aggregate-plan-read
+    slice-aggregate-plan-read-2
+    plan-read-requires
     refuse-requires
     returns
     refuse-requires-2
     returns-2
     refuse-requires-3
     returns-3
-    read-requires
     slice-aggregate-put-plan
     put-plan-requires
     same-length
