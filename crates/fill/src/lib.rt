@@ -172,7 +172,7 @@ fn fill_job(
     ghost { Sheet }
     requires { λ s. ⌜ sheetBy f (now figures) ≡ s ⌝ }
     requires { λ s. ⌜ (Axes s f) × (Stored s (now figures) (now steady)) × (need s ≤ length (now table)) ⌝ }
-    requires { λ s. ⌜ (64 ≤ length (now shifts)) × (64 ≤ length (now reaches)) × (64 ≤ length (now times)) × (2048 ≤ length (now part)) ⌝ }
+    requires { λ s. ⌜ (64 ≤ length (now shifts)) × (64 ≤ length (now reaches)) × (64 ≤ length (now times)) × (1024 ≤ length (now part)) ⌝ }
     requires { λ s. ⌜ (i < s .jobs) × (FilledFrom s (base s (suc i) 0) (now table) (now table)) ⌝ }
     ensures { λ s r. ⌜ FilledFrom s (base s i 0) (now (table .entry)) (now (table .exit)) ⌝ }
 {
@@ -194,7 +194,7 @@ pub fn fill(f: Frame, figures: &[u32; 1672], steady: &[u32; 8], table: &mut [u32
     let mut shifts = [0u32; 64];
     let mut reaches = [0u32; 64];
     let mut times = [0u32; 64];
-    let mut part = [0u32; 2048];
+    let mut part = [0u32; 1024];
     let mut i = f.jobs;
     while 0 < i {
         i -= 1;

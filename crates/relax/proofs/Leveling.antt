@@ -123,13 +123,13 @@ move-within {levels} mv p j hp hj = mv .within (p * levels + j) (move-lt levels 
 pub parted-none : (part : List ℕ) (n : ℕ) (f : ℕ → ℕ → ℕ) → Parted part part 0 n f
 parted-none part n f = record { long = refl; inside = λ p q h l. absurd (omega arith) }
 
-pub parted-more : {old part new : List ℕ} {p n : ℕ} {f : ℕ → ℕ → ℕ} → n ≤ 256 → Parted old part p n f → Runs part new (p * 256) n (f p) → Parted old new (p + 1) n f
+pub parted-more : {old part new : List ℕ} {p n : ℕ} {f : ℕ → ℕ → ℕ} → n ≤ 128 → Parted old part p n f → Runs part new (p * 128) n (f p) → Parted old new (p + 1) n f
 parted-more {old} {part} {new} {p} {n} {f} h v w =
     record {
       long = w .long ∙ v .long;
       inside = λ k q l g.
           elim (decLt k p) [
-            | yes z ↦ w .outside (k * 256 + q) (inl (omega arith)) ∙ v .inside k q z g
+            | yes z ↦ w .outside (k * 128 + q) (inl (omega arith)) ∙ v .inside k q z g
             | no z ↦
                 let e : k ≡ p = omega arith in
                 rw e (w .inside q g)
@@ -218,7 +218,7 @@ module _ {levels cells at x : ℕ} {old mid : List ℕ} {f : ℕ → ℕ → ℕ
     pub levels-on : (was part new : List ℕ) (n : ℕ) → x + n ≤ cells
         → ((p y : ℕ) → f p y ≡ settled (relaxedAt shifts reaches times old levels cells at p levels y))
         → Parted was part levels n (λ (p q : ℕ). relaxedAt shifts reaches times mid levels cells at p levels (x + q))
-        → Levels mid new at levels cells x (x + n) (λ (p y : ℕ). settled (getD part (p * 256 + (y - x)) 0))
+        → Levels mid new at levels cells x (x + n) (λ (p y : ℕ). settled (getD part (p * 128 + (y - x)) 0))
         → Levels old new at levels cells 0 (x + n) f
     levels-on was part new n room is d w =
         record {

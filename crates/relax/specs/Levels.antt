@@ -32,10 +32,10 @@ relaxedAt shifts reaches times table levels cells at p (suc k) y =
     let u : ℕ = p * levels + k in
     cond (ltb y (getD reaches u 0)) (min least (getD times u 0 + getD table (at + k * cells + (y + getD shifts u 0)) 0)) least
 
--- Each of the first `levels` parts of 256 words has n words of its level. What else the parts hold is open: they are scratch.
+-- Each of the first `levels` parts of 128 words has n words of its level. What else the parts hold is open: they are scratch.
 pub record Parted (old new : List ℕ) (levels n : ℕ) (f : ℕ → ℕ → ℕ) : Type 0 where
   pub long : length new ≡ length old
-  pub inside : (p q : ℕ) → p < levels → q < n → getD new (p * 256 + q) 0 ≡ f p q
+  pub inside : (p q : ℕ) → p < levels → q < n → getD new (p * 128 + q) 0 ≡ f p q
 
 -- The words from lo to hi of each level hold f; all other words of the table are as they were.
 pub record Levels (old new : List ℕ) (at levels cells lo hi : ℕ) (f : ℕ → ℕ → ℕ) : Type 0 where

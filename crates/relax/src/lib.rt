@@ -26,11 +26,11 @@ fn relax_level(
     n: usize,
 )
     requires { ⌜ Moving levels cells (now shifts) (now reaches) (now times) ⌝ }
-    requires { ⌜ (at + levels * cells ≤ length (now table)) × (at + levels * cells ≤ 4194304) × (2048 ≤ length (now part)) ⌝ }
-    requires { ⌜ (p < levels) × (n ≤ 256) × (x + n ≤ cells) × (Lows levels cells at x (now table)) ⌝ }
-    ensures { λ r. ⌜ Runs (now (part .entry)) (now (part .exit)) (p * 256) n (λ (q : ℕ). relaxedAt (now (shifts .entry)) (now (reaches .entry)) (now (times .entry)) (now (table .entry)) levels cells at p levels (x + q)) ⌝ }
+    requires { ⌜ (at + levels * cells ≤ length (now table)) × (at + levels * cells ≤ 4194304) × (1024 ≤ length (now part)) ⌝ }
+    requires { ⌜ (p < levels) × (n ≤ 128) × (x + n ≤ cells) × (Lows levels cells at x (now table)) ⌝ }
+    ensures { λ r. ⌜ Runs (now (part .entry)) (now (part .exit)) (p * 128) n (λ (q : ℕ). relaxedAt (now (shifts .entry)) (now (reaches .entry)) (now (times .entry)) (now (table .entry)) levels cells at p levels (x + q)) ⌝ }
 {
-    runs::clear(part, p * 256, n);
+    runs::clear(part, p * 128, n);
     let mut j: usize = 0;
     while j < levels {
         let u = p * levels + j;
@@ -39,7 +39,7 @@ fn relax_level(
             let shift = shifts[u] as usize;
             runs::relax(
                 part,
-                p * 256,
+                p * 128,
                 table,
                 at + j * cells + (x + shift),
                 fewest(n, reach - x),
@@ -64,8 +64,8 @@ fn relax_part(
     n: usize,
 )
     requires { ⌜ Moving levels cells (now shifts) (now reaches) (now times) ⌝ }
-    requires { ⌜ (at + levels * cells ≤ length (now table)) × (at + levels * cells ≤ 4194304) × (2048 ≤ length (now part)) ⌝ }
-    requires { ⌜ (n ≤ 256) × (x + n ≤ cells) × (Lows levels cells at x (now table)) ⌝ }
+    requires { ⌜ (at + levels * cells ≤ length (now table)) × (at + levels * cells ≤ 4194304) × (1024 ≤ length (now part)) ⌝ }
+    requires { ⌜ (n ≤ 128) × (x + n ≤ cells) × (Lows levels cells at x (now table)) ⌝ }
     ensures { λ r. ⌜ Parted (now (part .entry)) (now (part .exit)) levels n (λ (p q : ℕ). relaxedAt (now (shifts .entry)) (now (reaches .entry)) (now (times .entry)) (now (table .entry)) levels cells at p levels (x + q)) ⌝ }
 {
     let mut p: usize = 0;
@@ -97,13 +97,13 @@ fn settle_part(
     x: usize,
     n: usize,
 )
-    requires { ⌜ (at + levels * cells ≤ length (now table)) × (at + levels * cells ≤ 4194304) × (2048 ≤ length (now part)) ⌝ }
-    requires { ⌜ (levels ≤ 8) × (n ≤ 256) × (x + n ≤ cells) ⌝ }
-    ensures { λ r. ⌜ Levels (now (table .entry)) (now (table .exit)) at levels cells x (x + n) (λ (p y : ℕ). settled (getD (now (part .entry)) (p * 256 + (y - x)) 0)) ⌝ }
+    requires { ⌜ (at + levels * cells ≤ length (now table)) × (at + levels * cells ≤ 4194304) × (1024 ≤ length (now part)) ⌝ }
+    requires { ⌜ (levels ≤ 8) × (n ≤ 128) × (x + n ≤ cells) ⌝ }
+    ensures { λ r. ⌜ Levels (now (table .entry)) (now (table .exit)) at levels cells x (x + n) (λ (p y : ℕ). settled (getD (now (part .entry)) (p * 128 + (y - x)) 0)) ⌝ }
 {
     let mut p: usize = 0;
     while p < levels {
-        runs::settle(table, at + p * cells + x, part, p * 256, n);
+        runs::settle(table, at + p * cells + x, part, p * 128, n);
         p += 1;
     }
 }
@@ -121,12 +121,12 @@ pub fn relax_words(
     times: &[u32],
 )
     requires { ⌜ Moving levels cells (now shifts) (now reaches) (now times) ⌝ }
-    requires { ⌜ (at + levels * cells ≤ length (now table)) × (at + levels * cells ≤ 4194304) × (2048 ≤ length (now part)) × (Lows levels cells at 0 (now table)) ⌝ }
+    requires { ⌜ (at + levels * cells ≤ length (now table)) × (at + levels * cells ≤ 4194304) × (1024 ≤ length (now part)) × (Lows levels cells at 0 (now table)) ⌝ }
     ensures { λ r. ⌜ Levels (now (table .entry)) (now (table .exit)) at levels cells 0 cells (λ (p y : ℕ). settled (relaxedAt (now (shifts .entry)) (now (reaches .entry)) (now (times .entry)) (now (table .entry)) levels cells at p levels y)) ⌝ }
 {
     let mut x: usize = 0;
     while x < cells {
-        let n = fewest(256, cells - x);
+        let n = fewest(128, cells - x);
         relax_part(table, part, at, levels, cells, shifts, reaches, times, x, n);
         settle_part(table, part, at, levels, cells, x, n);
         x += n;

@@ -14,7 +14,7 @@ use Rattle.relax.proofs.relax_level.Tie as tie
 
 abbrev Inv-loop : tie.InvT-loop
 Inv-loop table part₀ at levels cells shifts reaches times p x n j₀ part j =
-    (j ≤ levels) × Runs part₀ part (p * 256) n (λ (q : ℕ). relaxedAt shifts reaches times table levels cells at p j (x + q))
+    (j ≤ levels) × Runs part₀ part (p * 128) n (λ (q : ℕ). relaxedAt shifts reaches times table levels cells at p j (x + q))
 
 abbrev μ-loop : tie.MeasureT-loop
 μ-loop table part₀ at levels cells shifts reaches times p x n j₀ part j = levels - j

@@ -28,8 +28,8 @@ sub-fewest c = c .before .loop .inv .0
 fewest-requires : tie.Need-fewest-requires Inv-loop μ-loop
 fewest-requires c κs = search needs
 
--- The run of the turn: some words, at most 256, and all of them the level's.
-run-some : (c : tie.After-fewest Inv-loop μ-loop) → (0 < c .fewest .result) × (c .fewest .result ≤ 256) × (c .before .before .loop .x + c .fewest .result ≤ c .before .before .before .before .before .before .before .before .args .cells)
+-- The run of the turn: some words, at most 128, and all of them the level's.
+run-some : (c : tie.After-fewest Inv-loop μ-loop) → (0 < c .fewest .result) × (c .fewest .result ≤ 128) × (c .before .before .loop .x + c .fewest .result ≤ c .before .before .before .before .before .before .before .before .args .cells)
 run-some c = (omega (arith, c .fewest .ensures, c .before .loop-test .taken), omega (arith, c .fewest .ensures), omega (arith, c .fewest .ensures, c .before .loop-test .taken))
 
 relax-part-requires : tie.Need-relax-part-requires Inv-loop μ-loop

@@ -10,7 +10,7 @@ use Rattle.relax.proofs.settle_part.Statement.{statement}
 use Rattle.relax.proofs.settle_part.Tie as tie
 
 abbrev Inv-loop : tie.InvT-loop
-Inv-loop table₀ part at levels cells x n p₀ table p = (p ≤ levels) × Levels table₀ table at p cells x (x + n) (λ (k y : ℕ). settled (getD part (k * 256 + (y - x)) 0))
+Inv-loop table₀ part at levels cells x n p₀ table p = (p ≤ levels) × Levels table₀ table at p cells x (x + n) (λ (k y : ℕ). settled (getD part (k * 128 + (y - x)) 0))
 
 abbrev μ-loop : tie.MeasureT-loop
 μ-loop table₀ part at levels cells x n p₀ table p = levels - p
