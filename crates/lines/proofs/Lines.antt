@@ -19,6 +19,7 @@ use Rattle.rows.specs.declared.Fault.{Fault}
 use Rattle.rows.specs.declared.Fault.the-variants.{Sound, Shape, Form, Range}
 use Rattle.lines.specs.declared.Kind.{Kind}
 use Rattle.lines.specs.declared.Kind.the-variants.{Level, Change, Work}
+use Rattle.lines.specs.Take.{LineTaken, Going}
 use Rattle.lines.specs.Lines.{after, steadyRow, levelRow, changeRow, workRow, rowFor, put, placesOf, blockFrom, Reads}
 
 -- A fault that is not `Sound`, as a match leaves it.
@@ -85,11 +86,6 @@ module _ (s : List ℕ) (kind : Kind) (b n j p ln : ℕ) (st : List ℕ) (h : j 
     unfolding blockFrom
     block-fault o = rw (left, line-ahead z l, same) (sym (after-other (row .fault) _ _ o))
 
-    pub block-on : row .fault ≡ Sound →
-        blockFrom kind b (n - j) j (drop p s) ln st ≡ blockFrom kind b (n - (j + 1)) (j + 1) (drop (r .end + 1) s) (ln + 1) (put kind (b + j) (row .values) st)
-    unfolding blockFrom
-    block-on f = rw (left, line-ahead z l, same, f, line-beyond z) refl
-
 pub block-end : (s : List ℕ) (kind : Kind) (b n j p ln : ℕ) (st : List ℕ) → n ≤ j →
     record { fault = Sound; line = ln; rest = drop p s; store = st } ≡ blockFrom kind b (n - j) j (drop p s) ln st
 unfolding blockFrom
@@ -128,62 +124,71 @@ module _ (kind : Kind) (k : ℕ) (h : k < placesOf kind) where
 
 -- ---- a block of n lines, j of them read
 
-pub record Going (s : List ℕ) (at line : ℕ) (kind : Kind) (b n : ℕ) (old store : List ℕ) (p j : ℕ) : Type 0 where
-  pub most : j ≤ n
-  pub within : p ≤ length s
-  pub long : length store ≡ 1672
-  pub rest : blockFrom kind b n 0 (drop at s) line old ≡ blockFrom kind b (n - j) j (drop p s) (line + j) store
+-- A sound line of which the values were put.
+pub line-taken : {s : List ℕ} {p : ℕ} {r : Line} → LineAt s p r → r .end < length s → (f : List ℕ → Row) (row : Row) → row ≡ f (part p (r .end) s) →
+    row .fault ≡ Sound → (kind : Kind) (k : ℕ) (old new : List ℕ) → new ≡ put kind k (row .values) old → LineTaken s p f kind k old new (r .end + 1)
+line-taken {s} {p} z l f row e sound kind k old new q =
+    let same : f (until 10 (drop p s)) ≡ row = ap f (sym (line-part z)) ∙ sym e in
+    record {
+      ends = line-ahead z l;
+      sound = ap (λ (x : Row). x .fault) same ∙ sound;
+      stored = q ∙ ap (λ (x : Row). put kind k (x .values) old) (sym same);
+      next = line-beyond z;
+      within = omega arith;
+    }
 
-pub going-none : (s : List ℕ) (at line : ℕ) (kind : Kind) (b n : ℕ) (old : List ℕ) → at ≤ length s → length old ≡ 1672 →
-    Going s at line kind b n old old at 0
-going-none s at line kind b n old h l =
+pub going-none : (s : List ℕ) (at : ℕ) (kind : Kind) (b n : ℕ) (old : List ℕ) → at ≤ length s → length old ≡ 1672 →
+    Going s at kind b n old old at 0
+going-none s at kind b n old h l =
     let z : n - 0 ≡ n = omega arith in
-    let y : line + 0 ≡ line = omega arith in
-    record { most = omega arith; within = h; long = l; rest = rw (z, y) refl }
+    record { most = omega arith; within = h; long = l; rest = λ line. let y : line + 0 ≡ line = omega arith in rw (z, y) refl }
 
-module _ {s : List ℕ} {at line : ℕ} {kind : Kind} {b n : ℕ} {old store : List ℕ} {p j : ℕ} (g : Going s at line kind b n old store p j) where
-  pub going-all : n ≤ j → Reads s (blockFrom kind b n 0 (drop at s) line old) (line + n) store (record { fault = Sound; line = line + n; at = p })
-  going-all h =
-      let z : line + n ≡ line + j = omega (arith, g .most) in
+module _ {s : List ℕ} {at : ℕ} {kind : Kind} {b n : ℕ} {old store : List ℕ} {p j : ℕ} (g : Going s at kind b n old store p j) where
+  pub going-same : {new : List ℕ} → new ≡ store → Going s at kind b n old new p j
+  going-same e = rw e g
+
+  -- One line more.
+  pub going-on : j < n → {new : List ℕ} {q : ℕ} → LineTaken s p (rowFor kind j) kind (b + j) store new q → Going s at kind b n old new q (j + 1)
+  unfolding blockFrom
+  going-on h t =
+      let left : n - j ≡ suc (n - (j + 1)) = omega arith in
       record {
-        found = rw z (block-end s kind b n j p (line + j) store h) ∙ sym (g .rest);
-        within = g .within;
-        lines = omega arith;
-        long = g .long;
+        most = omega arith;
+        within = t .within;
+        long = ap length (t .stored) ∙ put-length kind (b + j) _ store ∙ g .long;
+        rest = λ line. let y : line + (j + 1) ≡ line + j + 1 = omega arith in
+            rw (y, t .stored, ← t .next) (g .rest line ∙ rw (left, t .ends, t .sound) refl);
       }
 
-  module _ (h : j < n) (r : Line) (z : LineAt s p r) where
-    pub going-missing : r .end ≡ length s → Reads s (blockFrom kind b n 0 (drop at s) line old) (line + n) store (record { fault = Shape; line = line + j; at = p })
-    going-missing l =
+  module _ (line : ℕ) where
+    pub going-all : n ≤ j → Reads s (blockFrom kind b n 0 (drop at s) line old) (line + n) store (record { fault = Sound; line = line + n; at = p })
+    going-all h =
+        let z : line + n ≡ line + j = omega (arith, g .most) in
         record {
-          found = block-missing s kind b n j p (line + j) store h r z (omega arith) (g .within) ∙ sym (g .rest);
+          found = rw z (block-end s kind b n j p (line + j) store h) ∙ sym (g .rest line);
           within = g .within;
           lines = omega arith;
           long = g .long;
         }
 
-    module _ (l : r .end ≡ length s → ⊥) (row : Row) (e : row ≡ rowFor kind j (part p (r .end) s)) where
-      inside : r .end < length s
-      inside = omega (arith, z .within, l)
-
-      pub going-fault : Other (row .fault) → Reads s (blockFrom kind b n 0 (drop at s) line old) (line + n) store (record { fault = row .fault; line = line + j; at = p })
-      going-fault o =
+    module _ (h : j < n) (r : Line) (z : LineAt s p r) where
+      pub going-missing : r .end ≡ length s → Reads s (blockFrom kind b n 0 (drop at s) line old) (line + n) store (record { fault = Shape; line = line + j; at = p })
+      going-missing l =
           record {
-            found = block-fault s kind b n j p (line + j) store h r z inside row e o ∙ sym (g .rest);
+            found = block-missing s kind b n j p (line + j) store h r z (omega arith) (g .within) ∙ sym (g .rest line);
             within = g .within;
             lines = omega arith;
             long = g .long;
           }
 
-      pub going-on : row .fault ≡ Sound → (new : List ℕ) → new ≡ put kind (b + j) (row .values) store →
-          Going s at line kind b n old new (r .end + 1) (j + 1)
-      going-on f new q =
-          let y : line + (j + 1) ≡ line + j + 1 = omega arith in
+      pub going-fault : (r .end ≡ length s → ⊥) → (row : Row) → row ≡ rowFor kind j (part p (r .end) s) → Other (row .fault) →
+          Reads s (blockFrom kind b n 0 (drop at s) line old) (line + n) store (record { fault = row .fault; line = line + j; at = p })
+      going-fault l row e o =
           record {
-            most = omega arith;
-            within = omega (arith, inside);
-            long = ap length q ∙ put-length kind (b + j) (row .values) store ∙ g .long;
-            rest = rw (y, q) (g .rest ∙ block-on s kind b n j p (line + j) store h r z inside row e f);
+            found = block-fault s kind b n j p (line + j) store h r z (omega (arith, z .within, l)) row e o ∙ sym (g .rest line);
+            within = g .within;
+            lines = omega arith;
+            long = g .long;
           }
 
 pub places-most : (kind : Kind) → placesOf kind ≤ 512

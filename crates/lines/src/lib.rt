@@ -3,9 +3,12 @@ ghost use Prim.Native.Nat.{_+_, _<_, _≤_};
 ghost use lib.ListN.{length, drop};
 ghost use Rattle.text.specs.Text.{part, count};
 ghost use Rattle.rows.specs.Row.{numbersIn};
-ghost use Rattle.lines.specs.Lines.{levelRow, rowFor, put, placesOf, blockFrom, Reads};
+ghost use Rattle.lines.specs.declared.Kind.the-variants.{Level, Change, Work};
+ghost use Rattle.lines.specs.Lines.{levelRow, changeRow, workRow, rowFor, put, placesOf, blockFrom, Reads};
+ghost use Rattle.lines.specs.Take.{TakesLine, Going};
 use rows::Fault;
 use rows::Numbers;
+use text::Taken;
 
 // Which lines: L, with the sheet's thermal resistance; S, of the changes from a level; B.
 pub enum Kind {
@@ -21,13 +24,33 @@ pub struct Stop {
     pub at: usize,
 }
 
-const LEVEL_HI: [u32; 10] = [100_000, 0, 0, 0, 0, 0, 0, 0, 0, 0];
+// Where the line after one that was taken starts, or that none was.
+enum Next {
+    Line(usize),
+    Other,
+}
 
-const CHANGE_HI: [u32; 10] = [10_000_000, 10_000_000, 0, 0, 0, 0, 0, 0, 0, 0];
+// How many lines of a block were taken, and where the next line starts.
+struct Progress {
+    lines: usize,
+    at: usize,
+}
+
+const POWER_MAX: u32 = 100_000; // document 01: "power P (0 to 100,000)"
+
+const STEADY_STATE_MAX: u64 = 20_000; // document 01: "It must be at most 20,000"
+
+const COST_MAX: u32 = 10_000_000; // document 01: the range of a time or an energy, of a change or of a job
+
+const DECAY_MAX: u32 = 65_536; // document 01: "decay (0 to 65,536)"
+
+const LEVEL_HI: [u32; 10] = [POWER_MAX, 0, 0, 0, 0, 0, 0, 0, 0, 0];
+
+const CHANGE_HI: [u32; 10] = [COST_MAX, COST_MAX, 0, 0, 0, 0, 0, 0, 0, 0];
 
 const WORK_LO: [u32; 10] = [1, 0, 0, 0, 0, 0, 0, 0, 0, 0];
 
-const WORK_HI: [u32; 10] = [10_000_000, 10_000_000, 65_536, 0, 0, 0, 0, 0, 0, 0];
+const WORK_HI: [u32; 10] = [COST_MAX, COST_MAX, DECAY_MAX, 0, 0, 0, 0, 0, 0, 0];
 
 // Reads an L line: its power, and the steady-state temperature that it gives, are in range.
 fn read_level(s: &[u8], from: usize, to: usize, tabs: usize, resistance: u32) -> Numbers
@@ -42,7 +65,7 @@ fn read_level(s: &[u8], from: usize, to: usize, tabs: usize, resistance: u32) ->
         return r;
     };
     let values = r.values;
-    if 20_000 < thermal::steady_state(values[0], resistance) {
+    if STEADY_STATE_MAX < thermal::steady_state(values[0], resistance) {
         let next = r.next;
         return Numbers {
             fault: Fault::Range(2),
@@ -98,6 +121,111 @@ pub fn put_row(store: &mut [u32], kind: Kind, k: usize, values: [u32; 10])
     }
 }
 
+// Takes an L line, to row place k of the store. The text must go on for the letter, the byte 9 behind it and, for each number, 8
+// digits and the byte behind them.
+fn take_level(s: &[u8], from: usize, resistance: u32, k: usize, store: &mut [u32]) -> Next
+    requires { ⌜ (from ≤ length (now s)) × (k < 8) × (length (now store) ≡ 1672) ⌝ }
+    ensures { λ r. ⌜ TakesLine (now (s .entry)) from (levelRow resistance) (Level resistance) k (now (store .entry)) (now (store .exit)) r ⌝ }
+{
+    if !rows::starts_with(s, from, b'L', 11) {
+        return Next::Other;
+    }
+    let f = text::take_number(s, from + 2, 10, 0, POWER_MAX);
+    let Taken::Number(power, e) = f else {
+        return Next::Other;
+    };
+    if STEADY_STATE_MAX < thermal::steady_state(power, resistance) {
+        return Next::Other;
+    }
+    store[k] = power;
+    Next::Line(e + 1)
+}
+
+// Takes the S line of the change from one level to another, to row place k of the store.
+fn take_change(
+    s: &[u8],
+    from: usize,
+    left: usize,
+    entered: usize,
+    k: usize,
+    store: &mut [u32],
+) -> Next
+    requires { ⌜ (from ≤ length (now s)) × (k < 64) × (length (now store) ≡ 1672) ⌝ }
+    ensures { λ r. ⌜ TakesLine (now (s .entry)) from (changeRow left entered) (Change left) k (now (store .entry)) (now (store .exit)) r ⌝ }
+{
+    if !rows::starts_with(s, from, b'S', 20) {
+        return Next::Other;
+    }
+    let most = if entered == left { 0 } else { COST_MAX };
+    let f = text::take_number(s, from + 2, 9, 0, most);
+    let Taken::Number(time, d) = f else {
+        return Next::Other;
+    };
+    let g = text::take_number(s, d + 1, 10, 0, most);
+    let Taken::Number(energy, e) = g else {
+        return Next::Other;
+    };
+    store[8 + k] = time;
+    store[72 + k] = energy;
+    Next::Line(e + 1)
+}
+
+// Takes a B line, to row place k of the store.
+fn take_work(s: &[u8], from: usize, k: usize, store: &mut [u32]) -> Next
+    requires { ⌜ (from ≤ length (now s)) × (k < 512) × (length (now store) ≡ 1672) ⌝ }
+    ensures { λ r. ⌜ TakesLine (now (s .entry)) from workRow Work k (now (store .entry)) (now (store .exit)) r ⌝ }
+{
+    if !rows::starts_with(s, from, b'B', 29) {
+        return Next::Other;
+    }
+    let f = text::take_number(s, from + 2, 9, 1, COST_MAX);
+    let Taken::Number(time, c) = f else {
+        return Next::Other;
+    };
+    let g = text::take_number(s, c + 1, 9, 0, COST_MAX);
+    let Taken::Number(energy, d) = g else {
+        return Next::Other;
+    };
+    let h = text::take_number(s, d + 1, 10, 0, DECAY_MAX);
+    let Taken::Number(decay, e) = h else {
+        return Next::Other;
+    };
+    store[136 + k] = time;
+    store[648 + k] = energy;
+    store[1160 + k] = decay;
+    Next::Line(e + 1)
+}
+
+// Takes line i, from 0, of the lines of a kind, to row place k of the store.
+fn take_line(s: &[u8], from: usize, kind: Kind, i: usize, k: usize, store: &mut [u32]) -> Next
+    requires { ⌜ (from ≤ length (now s)) × (k < placesOf kind) × (length (now store) ≡ 1672) ⌝ }
+    ensures { λ r. ⌜ TakesLine (now (s .entry)) from (rowFor kind i) kind k (now (store .entry)) (now (store .exit)) r ⌝ }
+{
+    match kind {
+        Kind::Level(resistance) => take_level(s, from, resistance, k, store),
+        Kind::Change(p) => take_change(s, from, p, i, k, store),
+        Kind::Work => take_work(s, from, k, store),
+    }
+}
+
+// Takes the lines of a block of n lines of a kind, the first of which starts at `at`, up to one that is not taken.
+fn take_lines(s: &[u8], at: usize, kind: Kind, base: usize, n: usize, store: &mut [u32]) -> Progress
+    requires { ⌜ (at ≤ length (now s)) × (base + n ≤ placesOf kind) × (length (now store) ≡ 1672) ⌝ }
+    ensures { λ r. ⌜ Going (now (s .entry)) at kind base n (now (store .entry)) (now (store .exit)) (r .at) (r .lines) ⌝ }
+{
+    let mut p = at;
+    let mut j: usize = 0;
+    while j < n {
+        let t = take_line(s, p, kind, j, base + j, store);
+        let Next::Line(q) = t else {
+            break;
+        };
+        p = q;
+        j += 1;
+    }
+    Progress { lines: j, at: p }
+}
+
 // Reads n lines of a kind from line `line`, which starts at `at`, to the row places from `base` on.
 pub fn read_block(
     s: &[u8],
@@ -111,8 +239,9 @@ pub fn read_block(
     requires { ⌜ (at ≤ length (now s)) × (line + n < 4096) × (base + n ≤ placesOf kind) × (length (now store) ≡ 1672) ⌝ }
     ensures { λ r. ⌜ Reads (now (s .entry)) (blockFrom kind base n 0 (drop at (now (s .entry))) line (now (store .entry))) (line + n) (now (store .exit)) r ⌝ }
 {
-    let mut p = at;
-    let mut j: usize = 0;
+    let usual = take_lines(s, at, kind, base, n, store);
+    let mut p = usual.at;
+    let mut j = usual.lines;
     while j < n {
         let l = text::scan_line(s, p);
         let e = l.end;

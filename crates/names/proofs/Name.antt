@@ -5,9 +5,10 @@ use mathlib.Core.List.{List, []}
 use Prim.Native.Nat.{ℕ, zero, suc, _+_, _*_, _-_, _≤_, _<_}
 use native.Mathlib.Nat.{mul-le-mul}
 use native.Mathlib.Omega.{arith}
-use lib.ListN.{length, drop}
+use lib.ListN.{length, drop, length-drop}
+use lib.Seq.{take-all}
 use borrow.Author.Tests.{le-leb, lt-leb}
-use Rattle.text.specs.Text.{before, until, beyond, part}
+use Rattle.text.specs.Text.{before, until, beyond, part, count}
 use Rattle.text.specs.Line.{LineAt}
 use Rattle.text.specs.declared.Line.{Line}
 use Rattle.text.proofs.Text.{drop-none, beyond-part}
@@ -26,6 +27,11 @@ skip-none : (n : ℕ) → skip n [] ≡ []
 unfolding skip
 skip-none zero = refl
 skip-none (suc n) = ap (skip n) (beyond-none 10) ∙ skip-none n
+
+-- The line whose end was found.
+pub line-found : {s : List ℕ} {p e : ℕ} → e ≡ p + before 10 (part p (length s) s) → e ≤ length s → LineAt s p (record { end = e; tabs = count 9 (until 10 (drop p s)) })
+unfolding part
+line-found {s} {p} is h = record { end = rw (take-all (length s - p) (drop p s) (omega (arith, length-drop p s))) at is; tabs = refl; within = h }
 
 -- k of the next n lines from `from` are skipped, and place p is reached.
 pub record Skipped (s : List ℕ) (from n k p : ℕ) : Type 0 where

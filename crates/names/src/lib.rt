@@ -12,8 +12,7 @@ pub fn skip_lines(s: &[u8], from: usize, n: usize) -> usize
     let mut p = from;
     let mut k: usize = 0;
     while k < n {
-        let l = text::scan_line(s, p);
-        let e = l.end;
+        let e = text::find(s, p, s.len(), 10);
         if e == s.len() {
             return e;
         }

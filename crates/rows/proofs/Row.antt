@@ -15,6 +15,7 @@ use Rattle.text.specs.Number.{isNumber, valueFrom, fieldAt, isName}
 use Rattle.text.specs.declared.Field.the-variants.{Number, Malformed}
 use Rattle.text.proofs.Text.{before-none, before-hit, before-pass, before-le, until-none, part-none, part-here, length-part, beyond-part, count-ahead}
 use Rattle.text.proofs.Number.{number-empty}
+use Rattle.text.proofs.Take.{clash, cond-true}
 use Rattle.rows.specs.declared.Fault.the-variants.{Sound, Shape, Form, Range}
 use Rattle.rows.specs.Row.{Row, opens, numbersFrom, rowOf, nameFault}
 
@@ -60,13 +61,6 @@ module _ (s : List ℕ) (from to letter k : ℕ) (long : to ≤ length s) where
       opens-count c =
           let f : getD (part from to s) 0 0 ≡ letter = ap (λ (t : List ℕ). getD t 0 0) line ∙ e in
           rw (eq-eqb (before 9 (part from to s)) 1 (omega (arith, one, alone c)), eq-eqb (getD (part from to s) 0 0) letter f) refl
-
-clash : true ≡ false → _≡_ {A = ℕ} 0 1
-clash e = ap (λ (b : Bool). cond b 0 1) e
-
-cond-true : (a b : Bool) → cond a b false ≡ true → (a ≡ true) × (b ≡ true)
-cond-true true b e = (refl, e)
-cond-true false b e = let z = clash (sym e) in absurd (omega arith)
 
 module _ (letter k : ℕ) (line : List ℕ) (e : opens letter k line ≡ true) where
   -- A line that opens so has one byte before its first byte 9, and k bytes 9.

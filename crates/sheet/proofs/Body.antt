@@ -1,6 +1,7 @@
 -- Laws of the lines after the H line: one block or job more, and where the reading stops.
 -- Assumes nothing.
 use mathlib.Core.Path.{_≡_, refl, ap, sym, _∙_}
+use mathlib.Core.Bool.{Bool, true, false, cond}
 use mathlib.Core.List.{List}
 use Prim.Native.Nat.{ℕ, zero, suc, _+_, _*_, _-_, _≤_, _<_}
 use native.Mathlib.Omega.{arith}
@@ -12,14 +13,17 @@ use Rattle.text.proofs.Scanned.{line-part, line-ahead, line-missing, line-beyon
 use Rattle.rows.specs.Row.{nameFault}
 use Rattle.rows.specs.declared.Fault.{Fault}
 use Rattle.rows.specs.declared.Fault.the-variants.{Sound, Shape}
+use Rattle.rows.proofs.Within.{shapeless}
 use Rattle.rows.proofs.Fields.{name-field}
-use Rattle.lines.specs.Lines.{Found, blockFrom, foundIn, Reads}
+use Rattle.lines.specs.Lines.{after, Found, blockFrom, foundIn, Reads}
 use Rattle.lines.specs.declared.Kind.the-variants.{Level, Change, Work}
 use Rattle.lines.specs.declared.Stop.{Stop}
 use Rattle.lines.proofs.Lines.{Other, after-other}
 use Rattle.lines.proofs.Kept.{cond-cases, after-cases}
 use Rattle.lines.proofs.Places.{Placed, block-placed}
+use Rattle.sheet.specs.declared.Named.{Named}
 use Rattle.sheet.specs.Body.{onward, changesFrom, jobsFrom, bodyFrom}
+use Rattle.sheet.specs.Naming.{NameRead}
 
 -- ---- going on or stopping
 
@@ -80,6 +84,26 @@ module _ {s : List ℕ} {at line l : ℕ} {old store : List ℕ} {a q p : ℕ} (
           rest = rw left at (g .rest) ∙ onward-on _ _ (changesFrom l (l - (p + 1)) (p + 1)) (r .found) f;
         }
 
+-- ---- a line J
+
+module _ {s : List ℕ} {p : ℕ} {r : Line} (z : LineAt s p r) where
+  pub name-missing : r .end ≡ length s → p ≤ length s → NameRead s p (record { fault = Shape; next = p })
+  name-missing e h =
+      record { fault = rw (line-missing z (omega arith) h) refl; next = λ n. absurd (shapeless n); within = λ n. absurd (shapeless n) }
+
+  pub name-read : r .end < length s → (f : Fault) → f ≡ nameFault (part p (r .end) s) → NameRead s p (record { fault = f; next = r .end + 1 })
+  name-read h f e =
+      record { fault = rw (line-ahead z h) (e ∙ ap nameFault (line-part z)); next = λ n. line-beyond z; within = λ n. omega arith }
+
+-- The reading stops at its fault, and else goes on.
+name-stop : (b : Bool) (g f : Fault) (stop : Fault → Found) (go : Found) → f ≡ cond b g Shape → Other f → cond b (after g (stop g) go) (stop Shape) ≡ stop f
+name-stop true g f stop go e o = rw (← e) (after-other f (stop f) go o)
+name-stop false g f stop go e o = rw e refl
+
+name-on : (b : Bool) (g f : Fault) (stop : Fault → Found) (go : Found) → f ≡ cond b g Shape → f ≡ Sound → cond b (after g (stop g) go) (stop Shape) ≡ go
+name-on true g f stop go e s = rw (← e, s) refl
+name-on false g f stop go e s = absurd (shapeless (sym e ∙ s))
+
 -- ---- the jobs' lines, those of i jobs read
 
 pub record Jobs (s : List ℕ) (at line l m : ℕ) (old store : List ℕ) (a q i : ℕ) : Type 0 where
@@ -103,62 +127,55 @@ module _ {s : List ℕ} {at line l m : ℕ} {old store : List ℕ} {a q i : ℕ}
       let z : m - i ≡ 0 = omega arith in
       record { found = sym (rw z at (g .rest)); within = g .within; lines = omega (arith, g .lines, g .most); long = g .long }
 
-  module _ (h : i < m) (r : Line) (z : LineAt s a r) where
-    remaining : m - i ≡ suc (m - (i + 1))
-    remaining = omega arith
+  module _ (h : i < m) (r : Named) (z : NameRead s a r) where
+    -- Where the line J of job i has a fault, and what follows where it has none.
+    abbrev halt : Fault → Found
+    halt f = record { fault = f; line = q; rest = drop a s; store = store }
 
-    pub jobs-missing : r .end ≡ length s → Reads s (jobsFrom l m 0 (drop at s) line old) (line + m * 9) store (record { fault = Shape; line = q; at = a })
+    abbrev work : Found
+    work = onward (blockFrom Work (i * 8) l 0 (beyond 10 (drop a s)) (q + 1) store) (jobsFrom l (m - (i + 1)) (i + 1))
+
+    step : jobsFrom l m 0 (drop at s) line old ≡
+        cond (ahead 10 (drop a s)) (after (nameFault (until 10 (drop a s))) (halt (nameFault (until 10 (drop a s)))) work) (halt Shape)
     unfolding jobsFrom
-    jobs-missing e =
+    step = let remaining : m - i ≡ suc (m - (i + 1)) = omega arith in g .rest ∙ rw remaining refl
+
+    pub jobs-name : Other (r .fault) → Reads s (jobsFrom l m 0 (drop at s) line old) (line + m * 9) store (record { fault = r .fault; line = q; at = a })
+    jobs-name o =
         record {
-          found = sym (g .rest ∙ rw (remaining, line-missing z (omega arith) (g .within)) refl);
+          found = sym (step ∙ name-stop (ahead 10 (drop a s)) (nameFault (until 10 (drop a s))) (r .fault) halt work (z .fault) o);
           within = g .within;
           lines = omega (arith, g .lines);
           long = g .long;
         }
 
-    module _ (n : r .end ≡ length s → ⊥) (f : Fault) (e : f ≡ nameFault (part a (r .end) s)) where
-      inside : r .end < length s
-      inside = omega (arith, z .within, n)
+    module _ (sound : r .fault ≡ Sound) (new : List ℕ) (b : Stop) (w : Reads s (blockFrom Work (i * 8) l 0 (drop (r .next) s) (q + 1) store) (q + 1 + l) new b) where
+      next : jobsFrom l m 0 (drop at s) line old ≡ onward (blockFrom Work (i * 8) l 0 (drop (r .next) s) (q + 1) store) (jobsFrom l (m - (i + 1)) (i + 1))
+      next =
+          step
+          ∙ name-on (ahead 10 (drop a s)) (nameFault (until 10 (drop a s))) (r .fault) halt work (z .fault) sound
+          ∙ ap (λ (t : List ℕ). onward (blockFrom Work (i * 8) l 0 t (q + 1) store) (jobsFrom l (m - (i + 1)) (i + 1))) (z .next sound)
 
-      same : nameFault (until 10 (drop a s)) ≡ f
-      same = ap nameFault (sym (line-part z)) ∙ sym e
-
-      pub jobs-name : Other f → Reads s (jobsFrom l m 0 (drop at s) line old) (line + m * 9) store (record { fault = f; line = q; at = a })
-      unfolding jobsFrom
-      jobs-name o =
+      pub jobs-stop : Other (b .fault) → Reads s (jobsFrom l m 0 (drop at s) line old) (line + m * 9) new b
+      jobs-stop o =
           record {
-            found = sym (g .rest ∙ rw (remaining, line-ahead z inside, same) (after-other f _ _ o));
-            within = g .within;
-            lines = omega (arith, g .lines);
-            long = g .long;
+            found = onward-stop _ _ (jobsFrom l (m - (i + 1)) (i + 1)) (w .found) o ∙ sym next;
+            within = w .within;
+            lines = omega (arith, w .lines, g .lines, g .few);
+            long = w .long;
           }
 
-      module _ (sound : f ≡ Sound) (new : List ℕ) (b : Stop) (w : Reads s (blockFrom Work (i * 8) l 0 (drop (r .end + 1) s) (q + 1) store) (q + 1 + l) new b) where
-        next : jobsFrom l m 0 (drop at s) line old ≡ onward (blockFrom Work (i * 8) l 0 (drop (r .end + 1) s) (q + 1) store) (jobsFrom l (m - (i + 1)) (i + 1))
-        unfolding jobsFrom
-        next = g .rest ∙ rw (remaining, line-ahead z inside, same, sound, line-beyond z) refl
-
-        pub jobs-stop : Other (b .fault) → Reads s (jobsFrom l m 0 (drop at s) line old) (line + m * 9) new b
-        jobs-stop o =
-            record {
-              found = onward-stop _ _ (jobsFrom l (m - (i + 1)) (i + 1)) (w .found) o ∙ sym next;
-              within = w .within;
-              lines = omega (arith, w .lines, g .lines, g .few);
-              long = w .long;
-            }
-
-        pub jobs-on : b .fault ≡ Sound → Jobs s at line l m old new (b .at) (b .line) (i + 1)
-        jobs-on c =
-            record {
-              most = omega arith;
-              few = g .few;
-              early = g .early;
-              within = w .within;
-              lines = omega (arith, w .lines, g .lines, g .few);
-              long = w .long;
-              rest = next ∙ onward-on _ _ (jobsFrom l (m - (i + 1)) (i + 1)) (w .found) c;
-            }
+      pub jobs-on : b .fault ≡ Sound → Jobs s at line l m old new (b .at) (b .line) (i + 1)
+      jobs-on c =
+          record {
+            most = omega arith;
+            few = g .few;
+            early = g .early;
+            within = w .within;
+            lines = omega (arith, w .lines, g .lines, g .few);
+            long = w .long;
+            rest = next ∙ onward-on _ _ (jobsFrom l (m - (i + 1)) (i + 1)) (w .found) c;
+          }
 
 -- ---- all of them, one after the other
 

@@ -3,6 +3,7 @@ ghost use Prim.Native.Nat.{_+_, _*_, _-_, _≤_};
 ghost use lib.ListN.{length, drop, getD};
 ghost use Rattle.lines.specs.Lines.{Reads};
 ghost use Rattle.sheet.specs.Body.{changesFrom, jobsFrom, bodyFrom};
+ghost use Rattle.sheet.specs.Naming.{NameRead};
 ghost use Rattle.text.specs.Text.{part, count};
 ghost use Rattle.rows.specs.Row.{numbersIn};
 ghost use Rattle.sheet.specs.Reading.{refusedAs, refusalOf, headRow, figuresFrom, headFrom, sheetOf};
@@ -36,6 +37,37 @@ fn read_changes(s: &[u8], at: usize, line: usize, l: usize, store: &mut [u32]) -
     }
 }
 
+// The fault of a line J or none, and then where the next line starts.
+struct Named {
+    fault: Fault,
+    next: usize,
+}
+
+// Reads the line J that starts at `at`.
+fn read_name(s: &[u8], at: usize) -> Named
+    requires { ⌜ at ≤ length (now s) ⌝ }
+    ensures { λ r. ⌜ NameRead (now (s .entry)) at r ⌝ }
+{
+    let taken = rows::take_name(s, at);
+    if at < taken {
+        return Named {
+            fault: Fault::Sound,
+            next: taken + 1,
+        };
+    }
+    let n = text::scan_line(s, at);
+    let e = n.end;
+    if e == s.len() {
+        return Named {
+            fault: Fault::Shape,
+            next: at,
+        };
+    }
+    let tabs = n.tabs;
+    let fault = rows::check_name(s, at, e, tabs);
+    Named { fault, next: e + 1 }
+}
+
 // Reads the lines of m jobs of l levels from line `line`, which starts at `at`.
 fn read_jobs(s: &[u8], at: usize, line: usize, l: usize, m: usize, store: &mut [u32]) -> Stop
     requires { ⌜ (at ≤ length (now s)) × (line ≤ 75) × (l ≤ 8) × (m ≤ 64) × (length (now store) ≡ 1672) ⌝ }
@@ -45,17 +77,8 @@ fn read_jobs(s: &[u8], at: usize, line: usize, l: usize, m: usize, store: &mut [
     let mut a = at;
     let mut i: usize = 0;
     while i < m {
-        let n = text::scan_line(s, a);
-        let e = n.end;
-        if e == s.len() {
-            return Stop {
-                fault: Fault::Shape,
-                line: q,
-                at: a,
-            };
-        }
-        let tabs = n.tabs;
-        let g = rows::check_name(s, a, e, tabs);
+        let n = read_name(s, a);
+        let g = n.fault;
         let Fault::Sound = g else {
             return Stop {
                 fault: g,
@@ -63,7 +86,7 @@ fn read_jobs(s: &[u8], at: usize, line: usize, l: usize, m: usize, store: &mut [
                 at: a,
             };
         };
-        let b = lines::read_block(s, e + 1, q + 1, Kind::Work, i * 8, l, store);
+        let b = lines::read_block(s, n.next, q + 1, Kind::Work, i * 8, l, store);
         let f = b.fault;
         let Fault::Sound = f else {
             return b;

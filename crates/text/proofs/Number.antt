@@ -140,8 +140,8 @@ digits-none s from to h k =
 pow-more : (v d k : ℕ) → v < 10 ^ k → d < 10 → v * 10 + d < 10 ^ suc k
 pow-more v d k h g = rw pow-suc (omega arith)
 
-pub digits-value : (s : List ℕ) (from to i v : ℕ) → Digits s from to i v → v < 10 ^ 10
-digits-value s from to i v z = omega (arith, z .value, pow-le-pow-right {n = 10} (omega arith) (z .few))
+pub digits-value : (s : List ℕ) (from to i v : ℕ) → Digits s from to i v → (n : ℕ) → i - from ≤ n → v < 10 ^ n
+digits-value s from to i v z n h = omega (arith, z .value, pow-le-pow-right {n = 10} (omega arith) h)
 
 module _ (s : List ℕ) (from to i v : ℕ) (z : Digits s from to i v) (h : i < to) where
   -- The field at a byte that is not its end.
@@ -207,13 +207,21 @@ module _ (s : List ℕ) (from to i v : ℕ) (z : Digits s from to i v) (e : unti
   field-zero l q =
       rw (number-zero (until 9 (part from to s)) (omega (arith, size-is)) (omega (arith, size-is, z .few)) (first (omega arith) ∙ q)) refl
 
-  pub field-number : (i ≡ from → ⊥) → (i - from ≤ 1) ⊎ (getD s from 0 ≡ 48 → ⊥) → fieldAt from (part from to s) ≡ Number v (i + 1)
-  unfolding fieldAt valueFrom
-  field-number n c =
-      let l : from < i = omega (arith, z .start, n) in
+  pub field-form : from < i → (i - from ≤ 1) ⊎ (getD s from 0 ≡ 48 → ⊥) → isNumber (until 9 (part from to s)) ≡ true
+  field-form l c =
       let d : (length (until 9 (part from to s)) ≤ 1) ⊎ (getD (until 9 (part from to s)) 0 0 ≡ 48 → ⊥) =
       ⊎-elim (λ (h : i - from ≤ 1). inl (omega (arith, size-is))) (λ (m : getD s from 0 ≡ 48 → ⊥). inr (λ q. m (sym (first l) ∙ q))) c in
-      let a = z .rest ∙ ap (all 48 57) e ∙ all-none 48 57 in
-      let w = z .sum ∙ ap (valueFrom v) e in
+      number-digits (until 9 (part from to s)) (omega (arith, size-is)) (omega (arith, size-is, z .few)) d
+      ∙ z .rest
+      ∙ ap (all 48 57) e
+      ∙ all-none 48 57
+
+  pub field-value : valueFrom 0 (until 9 (part from to s)) ≡ v
+  unfolding valueFrom
+  field-value = z .sum ∙ ap (valueFrom v) e
+
+  pub field-number : (i ≡ from → ⊥) → (i - from ≤ 1) ⊎ (getD s from 0 ≡ 48 → ⊥) → fieldAt from (part from to s) ≡ Number v (i + 1)
+  unfolding fieldAt
+  field-number n c =
       let p : from + before 9 (part from to s) + 1 ≡ i + 1 = omega (arith, size-is, length-until 9 (part from to s)) in
-      rw (number-digits (until 9 (part from to s)) (omega (arith, size-is)) (omega (arith, size-is, z .few)) d, a, w, p) refl
+      rw (field-form (omega (arith, z .start, n)) c, field-value, p) refl

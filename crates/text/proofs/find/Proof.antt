@@ -1,13 +1,12 @@
 use mathlib.Core.Path.{_≡_, refl, sym, _∙_}
 use Prim.Native.Nat.{_+_, _-_, _≤_}
+use native.Mathlib.Omega.{arith}
 use lib.ListN.{length}
 use borrow.Author.Needs.{needs}
 use Rattle.text.specs.Text.{before, part}
-use Rattle.text.proofs.Text.{found-end, found-here, found-on}
+use Rattle.text.proofs.Text.{found-here}
 use Rattle.text.proofs.find.Statement.{statement}
 use Rattle.text.proofs.find.Tie as tie
-use Rattle.text.proofs.find.Reads as reads
-use Rattle.text.proofs.find.Lts as lts
 
 abbrev Inv-loop : tie.InvT-loop
 Inv-loop s from to b i₀ i = (i ≤ to) × (to ≤ length s) × (from + before b (part from to s) ≡ i + before b (part i to s))
@@ -15,44 +14,40 @@ Inv-loop s from to b i₀ i = (i ≤ to) × (to ≤ length s) × (from + before 
 abbrev μ-loop : tie.MeasureT-loop
 μ-loop s from to b i₀ i = to - i
 
--- src/lib.rt:13:5
 loop-holds : tie.Need-loop-holds Inv-loop μ-loop
 loop-holds c = (search needs, search needs, refl)
 
--- src/lib.rt:14:12
-shared-slice-read-if1 : tie.Need-shared-slice-read-if1 Inv-loop μ-loop
-shared-slice-read-if1 c = search needs
+sub-loop : tie.Need-sub-loop Inv-loop μ-loop
+sub-loop c = c .loop .inv .0
 
--- src/lib.rt:15:13
+pass-eight-requires : tie.Need-pass-eight-requires Inv-loop μ-loop
+pass-eight-requires c κs = (omega (arith, c .loop-test .taken), c .before .loop .inv .1)
+
+add-if1 : tie.Need-add-if1 Inv-loop μ-loop
+add-if1 c = search needs
+
 returns : tie.Need-returns Inv-loop μ-loop
-returns c = (sym (c .before .before .before .loop .inv .2 ∙ found-here _ _ _ _ (search needs) (search needs) (search needs)), search needs)
+returns c =
+    let l = c .before .before .before .loop in
+    let p = c .before .pass-eight .ensures in
+    let t = c .before .before .loop-test .taken in
+    let h = c .if1 .taken in
+    (sym (l .inv .2 ∙ p .0 ∙ found-here _ _ _ _ (omega (arith, h, t)) (l .inv .1) (p .1 .1 h)), omega (arith, h, t))
 
--- src/lib.rt:17:9
-add-i : tie.Need-add-i Inv-loop μ-loop
-add-i c = search needs
-
--- src/lib.rt:13:5
 loop-less : tie.Need-loop-less Inv-loop μ-loop
-loop-less c = search needs
+loop-less c = omega (arith, c .if1 .left, c .before .before .loop-test .taken)
 
--- src/lib.rt:13:5
 loop-again : tie.Need-loop-again Inv-loop μ-loop
-loop-again c = (search needs, search needs, c .before .before .before .loop .inv .2 ∙ found-on _ _ _ _ (search needs) (search needs) (search needs))
+loop-again c =
+    let l = c .before .before .before .loop in
+    let p = c .before .pass-eight .ensures in
+    (omega (arith, p .1 .0, c .before .before .loop-test .taken), l .inv .1, l .inv .2 ∙ p .0)
 
--- src/lib.rt:8:1
+find-near-requires : tie.Need-find-near-requires Inv-loop μ-loop
+find-near-requires c κs = (c .before .loop .inv .0, c .before .loop .inv .1)
+
 returns-2 : tie.Need-returns-2 Inv-loop μ-loop
-returns-2 c = (sym (c .before .loop .inv .2 ∙ found-end _ _ _ _ (search needs)), search needs)
+returns-2 c = let f = c .find-near .ensures in (f .0 ∙ sym (c .before .before .loop .inv .2), f .1)
 
 pub find-spec : {M : Type 1} → statement M
-find-spec =
-    tie.close
-    (tie.spec
-    Inv-loop
-    μ-loop
-    loop-holds
-    shared-slice-read-if1
-    returns
-    add-i
-    loop-less
-    loop-again
-    returns-2)
+find-spec = tie.close (tie.spec Inv-loop μ-loop loop-holds sub-loop pass-eight-requires add-if1 returns loop-less loop-again find-near-requires returns-2)

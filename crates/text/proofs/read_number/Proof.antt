@@ -43,7 +43,7 @@ returns-3 c = sym (digits-long _ _ _ _ _ (c .before .before .before .before .bef
 
 -- src/lib.rt:61:13
 mul-v : tie.Need-mul-v Inv-loop μ-loop
-mul-v c = omega (arith, digits-value _ _ _ _ _ (c .before .before .before .before .before .before .loop .inv))
+mul-v c = let z = c .before .before .before .before .before .before .loop .inv in omega (arith, digits-value _ _ _ _ _ z 10 (z .few))
 
 -- src/lib.rt:61:22
 cast-v : tie.Need-cast-v Inv-loop μ-loop
@@ -51,7 +51,7 @@ cast-v c = search needs
 
 -- src/lib.rt:61:13
 add-v : tie.Need-add-v Inv-loop μ-loop
-add-v c = omega (arith, digits-value _ _ _ _ _ (c .before .before .before .before .before .before .loop .inv))
+add-v c = let z = c .before .before .before .before .before .before .loop .inv in omega (arith, digits-value _ _ _ _ _ z 10 (z .few))
 
 -- src/lib.rt:62:9
 add-i : tie.Need-add-i Inv-loop μ-loop

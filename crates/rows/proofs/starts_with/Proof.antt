@@ -1,0 +1,49 @@
+use mathlib.Core.Path.{sym}
+use native.Mathlib.Omega.{arith}
+use borrow.Author.Needs.{needs}
+use borrow.Author.Tests.{eqb-true}
+use Rattle.text.proofs.Take.{clash}
+use Rattle.rows.proofs.starts_with.Statement.{statement}
+use Rattle.rows.proofs.starts_with.Tie as tie
+use Rattle.rows.proofs.starts_with.Reads as reads
+use Rattle.rows.proofs.starts_with.Lts as lts
+
+-- src/lib.rt:141:8
+sub-if1 : tie.Need-sub-if1
+sub-if1 c = search needs
+
+-- src/lib.rt:142:9
+returns : tie.Need-returns
+returns c = λ e. let z = clash (sym e) in absurd (omega arith)
+
+-- src/lib.rt:144:8
+shared-slice-read-if2 : tie.Need-shared-slice-read-if2
+shared-slice-read-if2 c = search needs
+
+-- src/lib.rt:145:9
+returns-2 : tie.Need-returns-2
+returns-2 c = λ e. let z = clash (sym e) in absurd (omega arith)
+
+-- src/lib.rt:147:7
+add-result : tie.Need-add-result
+add-result c = search needs
+
+-- src/lib.rt:147:5
+shared-slice-read-result : tie.Need-shared-slice-read-result
+shared-slice-read-result c = search needs
+
+-- src/lib.rt:137:1
+returns-3 : tie.Need-returns-3
+returns-3 c = λ e. record { within = search needs; first = search needs; second = eqb-true _ _ e }
+
+pub starts-with-spec : {M : Type 1} → statement M
+starts-with-spec =
+    tie.close
+    (tie.spec
+    sub-if1
+    returns
+    shared-slice-read-if2
+    returns-2
+    add-result
+    shared-slice-read-result
+    returns-3)

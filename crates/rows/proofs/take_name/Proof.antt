@@ -1,0 +1,55 @@
+use mathlib.Core.Path.{refl}
+use native.Mathlib.Omega.{arith}
+use borrow.Author.Needs.{needs}
+use borrow.Author.Tests.{not-false}
+use Rattle.rows.specs.Take.{Starts}
+use Rattle.rows.proofs.Take.{starts-name}
+use Rattle.rows.proofs.take_name.Statement.{statement}
+use Rattle.rows.proofs.take_name.Tie as tie
+use Rattle.rows.proofs.take_name.Reads as reads
+use Rattle.rows.proofs.take_name.Lts as lts
+use Rattle.rows.proofs.starts_with.Reads as starts-with-reads
+use Rattle.text.proofs.take_name.Reads as take-name-reads
+
+-- src/lib.rt:155:9
+starts-with-requires : tie.Need-starts-with-requires
+starts-with-requires c κs = search needs
+
+-- src/lib.rt:156:9
+returns : tie.Need-returns
+returns c = λ h. absurd (omega arith)
+
+started : (c : tie.Else1) → Starts (c .before .before .before .args .s .now) (c .before .before .before .args .from) 74 19
+started c = c .before .starts-with .ensures (not-false _ (c .if1 .left))
+
+-- src/lib.rt:158:32
+add-take-name : tie.Need-add-take-name
+add-take-name c = search needs
+
+-- src/lib.rt:158:9
+take-name-requires : tie.Need-take-name-requires
+take-name-requires c κs = omega (arith, started c .within)
+
+-- src/lib.rt:159:8
+add-if2 : tie.Need-add-if2
+add-if2 c = search needs
+
+-- src/lib.rt:160:9
+returns-2 : tie.Need-returns-2
+returns-2 c = λ h. starts-name (started (c .before .before)) (omega arith) (omega arith) refl _ (c .if2 .taken) (c .before .take-name .ensures (c .if2 .taken))
+
+-- src/lib.rt:151:1
+returns-3 : tie.Need-returns-3
+returns-3 c = λ h. absurd (omega arith)
+
+pub take-name-spec : {M : Type 1} → statement M
+take-name-spec =
+    tie.close
+    (tie.spec
+    starts-with-requires
+    returns
+    add-take-name
+    take-name-requires
+    add-if2
+    returns-2
+    returns-3)

@@ -1,0 +1,129 @@
+use mathlib.Core.Path.{refl}
+use mathlib.Core.Logic.{inl, inr, ⊎-elim}
+use Prim.Native.Nat.{_+_, _-_, _^_, _<_, _≤_}
+use native.Mathlib.Omega.{arith}
+use lib.ListN.{length}
+use borrow.Author.Needs.{needs}
+use Rattle.text.proofs.Number.{digits-value}
+use Rattle.text.proofs.Take.{Run, run-none, run-more, run-number}
+use Rattle.text.proofs.take_number.Statement.{statement}
+use Rattle.text.proofs.take_number.Tie as tie
+use Rattle.text.proofs.take_number.Reads as reads
+use Rattle.text.proofs.take_number.Lts as lts
+
+abbrev Inv-loop : tie.InvT-loop
+Inv-loop s at stop lo hi v₀ k₀ v k = (k ≤ 8) × (at + 9 ≤ length s) × Run s at (at + k) v
+
+abbrev μ-loop : tie.MeasureT-loop
+μ-loop s at stop lo hi v₀ k₀ v k = 8 - k
+
+-- src/lib.rt:104:5
+loop-holds : tie.Need-loop-holds Inv-loop μ-loop
+loop-holds c = (search needs, search needs, run-none _ _)
+
+-- src/lib.rt:105:19
+add-digit : tie.Need-add-digit Inv-loop μ-loop
+add-digit c = search needs
+
+-- src/lib.rt:105:17
+shared-slice-read-digit : tie.Need-shared-slice-read-digit Inv-loop μ-loop
+shared-slice-read-digit c = search needs
+
+-- Another digit leaves the value below 10 ^ 8.
+few : (c : tie.Else2 Inv-loop μ-loop) → c .before .before .before .before .loop .v < 10 ^ 7
+few c =
+    let l = c .before .before .before .before .loop in
+    let at = c .before .before .before .before .before .args .at in
+    digits-value _ _ _ _ _ (l .inv .2 (at + l .k) (omega arith) (search needs)) 7 (search needs)
+
+-- src/lib.rt:112:13
+mul-v : tie.Need-mul-v Inv-loop μ-loop
+mul-v c = omega (arith, few c)
+
+-- src/lib.rt:112:22
+cast-v : tie.Need-cast-v Inv-loop μ-loop
+cast-v c = search needs
+
+-- src/lib.rt:112:13
+add-v : tie.Need-add-v Inv-loop μ-loop
+add-v c = omega (arith, few c)
+
+-- src/lib.rt:113:9
+add-k : tie.Need-add-k Inv-loop μ-loop
+add-k c = search needs
+
+-- src/lib.rt:104:5
+loop-less : tie.Need-loop-less Inv-loop μ-loop
+loop-less c = search needs
+
+-- src/lib.rt:104:5
+loop-again : tie.Need-loop-again Inv-loop μ-loop
+loop-again c = (search needs, search needs, run-more _ _ _ _ _ (c .before .before .before .before .loop .inv .2) (search needs) refl (search needs) (search needs))
+
+-- src/lib.rt:116:9
+returns : tie.Need-returns Inv-loop μ-loop
+returns c = tt
+
+-- src/lib.rt:119:12
+shared-slice-read-if5 : tie.Need-shared-slice-read-if5 Inv-loop μ-loop
+shared-slice-read-if5 c = search needs
+
+-- src/lib.rt:120:13
+returns-2 : tie.Need-returns-2 Inv-loop μ-loop
+returns-2 c = tt
+
+-- src/lib.rt:123:10
+add-if6 : tie.Need-add-if6 Inv-loop μ-loop
+add-if6 c = search needs
+
+-- src/lib.rt:123:8
+shared-slice-read-if6 : tie.Need-shared-slice-read-if6 Inv-loop μ-loop
+shared-slice-read-if6 c = search needs
+
+-- src/lib.rt:124:9
+returns-3 : tie.Need-returns-3 Inv-loop μ-loop
+returns-3 c = tt
+
+-- src/lib.rt:127:9
+returns-4 : tie.Need-returns-4 Inv-loop μ-loop
+returns-4 c = tt
+
+-- src/lib.rt:130:9
+returns-5 : tie.Need-returns-5 Inv-loop μ-loop
+returns-5 c = tt
+
+-- src/lib.rt:132:22
+add-t19 : tie.Need-add-t19 Inv-loop μ-loop
+add-t19 c = search needs
+
+-- src/lib.rt:98:1
+returns-6 : tie.Need-returns-6 Inv-loop μ-loop
+returns-6 c =
+    run-number _ _ _ _ (c .before .before .before .before .before .before .before .loop .inv .2) (search needs) (search needs) _ _ _ (search needs)
+    (⊎-elim (λ w. inr (w .2 .left)) (λ w. inl (omega arith)) (c .before .before .before .before .if4 .came)) (search needs) (search needs) (search needs)
+
+pub take-number-spec : {M : Type 1} → statement M
+take-number-spec =
+    tie.close
+    (tie.spec
+    Inv-loop
+    μ-loop
+    loop-holds
+    add-digit
+    shared-slice-read-digit
+    mul-v
+    cast-v
+    add-v
+    add-k
+    loop-less
+    loop-again
+    returns
+    shared-slice-read-if5
+    returns-2
+    add-if6
+    shared-slice-read-if6
+    returns-3
+    returns-4
+    returns-5
+    add-t19
+    returns-6)
