@@ -1,3 +1,4 @@
+pub mod Quotients
 pub mod Moving
 pub mod Flat
 pub mod Figures

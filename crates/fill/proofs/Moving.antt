@@ -2,7 +2,7 @@
 -- Assumes nothing.
 use mathlib.Core.Path.{_≡_, refl, sym, ap, ap₂, _∙_}
 use Prim.Native.Nat.{ℕ, suc, _+_, _*_, _-_, _≤_, _<_, min}
-use native.Mathlib.Nat.{mul-add-div-right}
+use native.Mathlib.Nat.{mul-add-div-right, mul-le-mul-right}
 use native.Mathlib.Decide.{decLt, decLe}
 use native.Mathlib.Omega.{arith}
 use lib.Dec.{ltb}
@@ -14,6 +14,7 @@ use Rattle.frame.specs.Run.{State, fresh, change, job, step}
 use Rattle.frame.specs.Demands.{infeasible}
 use Rattle.frame.specs.Plan.{leastOf, next, via, least}
 use Rattle.frame.specs.Table.{energyCells, temperatureCells, cell, word}
+use Rattle.frame.proofs.Slack.{near-step}
 use Rattle.frame.proofs.Table.{temperature-cell, least-word}
 use Rattle.frame.proofs.Words.{least-bounded, least-small}
 use Rattle.table.proofs.Lookup.{least-more, least-none, next-cell, cost-energy, cost-temperature, cost-within}
@@ -46,6 +47,28 @@ unfolding ceilDiv
 ceil-add a e g h =
     let z : a * g + e + (g - 1) ≡ a * g + (e + (g - 1)) = omega arith in
     rw z (mul-add-div-right h a (e + (g - 1)))
+
+-- ---- the temperature cells
+
+module _ (s : Sheet) (ok : Ranges s) (i j : ℕ) where
+  -- A warmer start ends no cooler.
+  warmed-mono : (t u : ℕ) → t ≤ u → warmed s i j t ≤ warmed s i j u
+  warmed-mono t u h = omega (arith, near-step s ok 0 0 (fresh i j 0 u) (fresh i j 0 t) j (omega arith) .temperature)
+
+  -- So a cell from which the job ends above C is followed by such cells alone.
+  pub cell-stays : (b c : ℕ) → b ≤ c → temperatureCells s ≤ nextCell s i j b → temperatureCells s ≤ nextCell s i j c
+  unfolding nextCell
+  cell-stays b c h l =
+      let t = warmed s i j (b * s.temperatureStep) in
+      let u = warmed s i j (c * s.temperatureStep) in
+      elim (decLe t s.temperatureLimit) [
+        | yes g ↦ absurd (omega (arith, temperature-cell s ok t g, rw (le-leb t s.temperatureLimit g) at l))
+        | no g ↦
+            let m : s.temperatureLimit < u = omega (arith, warmed-mono _ _ (mul-le-mul-right s.temperatureStep h)) in
+            rw (lt-leb u s.temperatureLimit m) (omega arith)
+      ]
+
+-- ---- words
 
 -- What is cut to a word may be cut before.
 least-near : (c r : ℕ) → near (min infeasible (c + r)) ≡ near (c + near r)

@@ -11,8 +11,9 @@ use Rattle.frame.specs.Table.{energyCells, temperatureCells, need, place}
 use Rattle.table.specs.Table.{Axes, Holds}
 use Rattle.table.specs.declared.Frame.{Frame}
 use Rattle.runs.specs.Runs.{Runs}
-use Rattle.expand.specs.Rows.{gathered, finished}
+use Rattle.expand.specs.Rows.{gathered, finished, Rising}
 use Rattle.fill.specs.Layer.{cells, base, nextCell, followsAt, Kept, Follows}
+use Rattle.fill.proofs.Moving.{cell-stays}
 use Rattle.fill.proofs.Flat.{width-some}
 use Rattle.fill.proofs.Layering.{base-next, gathered-follows, finished-follows}
 use Rattle.fill.proofs.Jobs.{base-start, base-mono, base-need, base-within, kept-both, kept-runs, holds-kept}
@@ -84,6 +85,15 @@ module _ {s : Sheet} {f : Frame} (g : Axes s f) where
         (m : Runs old mid (at + (f .«energy_cells» - 1) * f .«temperature_cells») (temperatureCells s) (nextCell s i j)) where
       map-kept : Kept (base s i j) (base s i j + cells s) old mid
       map-kept = kept-runs (omega (arith, at-is)) (omega (arith, at-is, last-row, g .temperature-cells)) m
+
+      pub map-rising : Rising mid (at + (f .«energy_cells» - 1) * f .«temperature_cells») (f .«temperature_cells»)
+      map-rising =
+          record {
+            stays = λ b c l k w.
+                let z = g .temperature-cells in
+                let v : temperatureCells s ≤ nextCell s i j b = omega (arith, z, m .inside b (omega (arith, z))) in
+                omega (arith, z, m .inside c (omega (arith, z)), cell-stays s (g .ranges) i j b c l v);
+          }
 
       module _ {new : List ℕ} {h : ℕ → ℕ} (r : Runs mid new at (f .«energy_cells» * f .«temperature_cells») h) (e : (y : ℕ) → y < cells s → h y ≡ followsAt s i j y) where
         laid : Follows s i j old new

@@ -1,6 +1,6 @@
 ghost use mathlib.Core.Path.{_≡_};
 ghost use mathlib.Core.Bool.{cond};
-ghost use Prim.Native.Nat.{suc, _+_, _*_, _≤_, _<_};
+ghost use Prim.Native.Nat.{suc, _+_, _*_, _-_, _/_, _≤_, _<_};
 ghost use lib.Dec.{leb};
 ghost use lib.ListN.{length};
 ghost use Rattle.thermal.specs.Rounding.{ceilDiv};
@@ -13,11 +13,35 @@ ghost use Rattle.fill.specs.Layer.{base, moved, shiftOf, reachOf, nextCe
 use run::Run;
 use table::Frame;
 
+// The scale of a multiplier that stands for a division: 2 ^ 32.
+const SCALE: u64 = 4_294_967_296;
+
+// One less, so that a multiplier takes a division of 32 bits.
+const WORD_MAX: u32 = 4_294_967_295;
+
 // A job's move from one level to another.
 struct Move {
     shift: usize,
     reach: usize,
     time: u32,
+}
+
+// How many energy cells, from the first, have the energy for a job: (W - energy) / g + 1, without a division. Raising adds `over` to W
+// for the last cell and `short` to the job's energy for `up` cells: the cell that is `up` before the last has the energy where `over`
+// is at most `short`, and each cell before it has.
+fn lawful_rows(f: Frame, energy: u32, up: u32) -> u32
+    requires { ⌜ (energy ≤ f .«energy_budget») × (f .«energy_budget» ≤ 2000000000) × (1 ≤ f .«energy_step») × (f .«energy_step» ≤ 2000000000) ⌝ }
+    requires { ⌜ (up ≡ ceilDiv energy (f .«energy_step»)) × (f .«energy_cells» ≡ ceilDiv (f .«energy_budget») (f .«energy_step») + 1) ⌝ }
+    ensures { λ r. ⌜ r ≡ (f .«energy_budget» - energy) / f .«energy_step» + 1 ⌝ }
+{
+    let last = (f.energy_cells - 1) as u32;
+    let over = last * f.energy_step - f.energy_budget as u32;
+    let short = up * f.energy_step - energy;
+    if over <= short {
+        last - up + 1
+    } else {
+        last - up
+    }
 }
 
 // The move of job i from level p to level j. Its energy is that of the same job from energy 0.
@@ -38,13 +62,44 @@ fn move_of(f: Frame, figures: &[u32; 1672], steady: &[u32; 8], i: u32, p: u32, j
         };
     }
     let energy = b.energy as u32;
-    let rest = (f.energy_budget - b.energy) as u32;
-    let shift = table::ceil_div(energy, f.energy_step) as usize * f.temperature_cells;
-    let reach = (rest / f.energy_step) as usize * f.temperature_cells + f.temperature_cells;
+    let up = table::ceil_div(energy, f.energy_step);
+    let rows = lawful_rows(f, energy, up);
+    let shift = up as usize * f.temperature_cells;
+    let reach = rows as usize * f.temperature_cells;
     Move {
         shift: shift,
         reach: reach,
         time: time,
+    }
+}
+
+// Finds the moves of job i from level p, behind those from the levels before it.
+fn find_moves_from(
+    f: Frame,
+    figures: &[u32; 1672],
+    steady: &[u32; 8],
+    i: u32,
+    p: u32,
+    shifts: &mut [u32],
+    reaches: &mut [u32],
+    times: &mut [u32],
+)
+    ghost { Sheet }
+    requires { λ s. ⌜ sheetBy f (now figures) ≡ s ⌝ }
+    requires { λ s. ⌜ (Axes s f) × (Stored s (now figures) (now steady)) × (i < s .jobs) × (p < s .levels) ⌝ }
+    requires { λ s. ⌜ (64 ≤ length (now shifts)) × (64 ≤ length (now reaches)) × (64 ≤ length (now times)) ⌝ }
+    requires { λ s. ⌜ Moves s i (p * s .levels) (now shifts) (now reaches) (now times) ⌝ }
+    ensures { λ s r. ⌜ Moves s i (p * s .levels + s .levels) (now (shifts .exit)) (now (reaches .exit)) (now (times .exit)) ⌝ }
+{
+    let l = f.levels;
+    let mut j: u32 = 0;
+    while j < l {
+        let m = move_of(f, figures, steady, i, p, j);
+        let u = (p * l + j) as usize;
+        shifts[u] = m.shift as u32;
+        reaches[u] = m.reach as u32;
+        times[u] = m.time;
+        j += 1;
     }
 }
 
@@ -65,23 +120,23 @@ fn find_moves(
     ensures { λ s r. ⌜ Moves s i (s .levels * s .levels) (now (shifts .exit)) (now (reaches .exit)) (now (times .exit)) ⌝ }
 {
     let l = f.levels;
-    let mut u: u32 = 0;
-    while u < l * l {
-        let m = move_of(f, figures, steady, i, u / l, u % l);
-        shifts[u as usize] = m.shift as u32;
-        reaches[u as usize] = m.reach as u32;
-        times[u as usize] = m.time;
-        u += 1;
+    let mut p: u32 = 0;
+    while p < l {
+        find_moves_from(f, figures, steady, i, p, shifts, reaches, times);
+        p += 1;
     }
 }
 
-// The temperature cell of a temperature at a job's end, B where it is above the limit.
-fn cell_of(f: Frame, t: u64) -> u32
+// The temperature cell of a temperature at a job's end, B where it is above the limit. The quotient by h is worked out by the
+// multiplier 2 ^ 32 / h, rounded up: it is exact for numbers as small as these.
+fn cell_of(f: Frame, t: u64, multiplier: u64) -> u32
     requires { ⌜ (f .«temperature_limit» ≤ 20000) × (1 ≤ f .«temperature_step») × (f .«temperature_step» ≤ 20000) × (f .«temperature_cells» ≤ 4194304) ⌝ }
+    requires { ⌜ multiplier ≡ 4294967295 / f .«temperature_step» + 1 ⌝ }
     ensures { λ r. ⌜ r ≡ cond (leb t (f .«temperature_limit»)) (ceilDiv t (f .«temperature_step»)) (f .«temperature_cells») ⌝ }
 {
     if t <= f.temperature_limit {
-        return table::ceil_div(t as u32, f.temperature_step);
+        let step = f.temperature_step as u64;
+        return ((t + (step - 1)) * multiplier / SCALE) as u32;
     }
     f.temperature_cells as u32
 }
@@ -103,11 +158,12 @@ fn map_cells(
     ensures { λ s r. ⌜ Runs (now (table .entry)) (now (table .exit)) at (temperatureCells s) (nextCell s i j) ⌝ }
 {
     let step = f.temperature_step as u64;
+    let multiplier = (WORD_MAX / f.temperature_step) as u64 + 1;
     let width = f.temperature_cells;
     let mut b: usize = 0;
     while b < width {
         let c = step::next_job(Run::fresh(i, j, 0, b as u64 * step), figures, steady, j);
-        table[at + b] = cell_of(f, c.temperature);
+        table[at + b] = cell_of(f, c.temperature, multiplier);
         b += 1;
     }
 }
@@ -172,7 +228,7 @@ fn fill_job(
     ghost { Sheet }
     requires { λ s. ⌜ sheetBy f (now figures) ≡ s ⌝ }
     requires { λ s. ⌜ (Axes s f) × (Stored s (now figures) (now steady)) × (need s ≤ length (now table)) ⌝ }
-    requires { λ s. ⌜ (64 ≤ length (now shifts)) × (64 ≤ length (now reaches)) × (64 ≤ length (now times)) × (1024 ≤ length (now part)) ⌝ }
+    requires { λ s. ⌜ (64 ≤ length (now shifts)) × (64 ≤ length (now reaches)) × (64 ≤ length (now times)) × (3072 ≤ length (now part)) ⌝ }
     requires { λ s. ⌜ (i < s .jobs) × (FilledFrom s (base s (suc i) 0) (now table) (now table)) ⌝ }
     ensures { λ s r. ⌜ FilledFrom s (base s i 0) (now (table .entry)) (now (table .exit)) ⌝ }
 {
@@ -194,7 +250,7 @@ pub fn fill(f: Frame, figures: &[u32; 1672], steady: &[u32; 8], table: &mut [u32
     let mut shifts = [0u32; 64];
     let mut reaches = [0u32; 64];
     let mut times = [0u32; 64];
-    let mut part = [0u32; 1024];
+    let mut part = [0u32; 3072];
     let mut i = f.jobs;
     while 0 < i {
         i -= 1;

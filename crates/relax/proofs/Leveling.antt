@@ -10,8 +10,8 @@ use native.Mathlib.Omega.{arith}
 use native.Mathlib.Decide.{decLt}
 use lib.ListN.{getD}
 use borrow.Author.Tests.{lt-ltb, le-ltb}
-use Rattle.runs.specs.Runs.{far, settled, Runs, Low}
-use Rattle.relax.specs.Levels.{Moving, Lows, relaxedAt, Parted, Levels}
+use Rattle.runs.specs.Runs.{settled, Runs}
+use Rattle.relax.specs.Levels.{partSize, Moving, Lows, relaxedAt, Parted, Levels}
 
 -- ---- numbers and places
 
@@ -35,10 +35,6 @@ outside-part : (at n a m q : ℕ) → at ≤ a → a + m ≤ at + n → (q < at)
 outside-part at n a m q h l (inl z) = inl (omega arith)
 outside-part at n a m q h l (inr z) = inr (omega arith)
 
--- A run set twice holds what was set last.
-pub runs-trans : {old mid new : List ℕ} {at n : ℕ} {f g : ℕ → ℕ} → Runs old mid at n f → Runs mid new at n g → Runs old new at n g
-runs-trans v w = record { long = w .long ∙ v .long; inside = w .inside; outside = λ q h. w .outside q h ∙ v .outside q h }
-
 -- ---- one more move
 
 module _ (shifts reaches times table : List ℕ) (levels cells at p : ℕ) where
@@ -46,71 +42,14 @@ module _ (shifts reaches times table : List ℕ) (levels cells at p : ℕ) where
   least = relaxedAt shifts reaches times table levels cells at p
 
   -- A word for which the move is lawful, and one for which it is not.
-  relaxed-on : (k y : ℕ) → let u = p * levels + k in
+  pub relaxed-on : (k y : ℕ) → let u = p * levels + k in
       y < getD reaches u 0 → least (suc k) y ≡ min (least k y) (getD times u 0 + getD table (at + k * cells + (y + getD shifts u 0)) 0)
   unfolding relaxedAt
   relaxed-on k y h = simp (lt-ltb _ _ h)
 
-  relaxed-off : (k y : ℕ) → getD reaches (p * levels + k) 0 ≤ y → least (suc k) y ≡ least k y
+  pub relaxed-off : (k y : ℕ) → getD reaches (p * levels + k) 0 ≤ y → least (suc k) y ≡ least k y
   unfolding relaxedAt
   relaxed-off k y h = simp (le-ltb _ _ h)
-
-  -- No word is above `far`.
-  relaxed-far : (k y : ℕ) → least k y ≤ far
-  unfolding relaxedAt
-  relaxed-far zero y = omega arith
-  relaxed-far (suc k) y =
-      elim (decLt y (getD reaches (p * levels + k) 0)) [
-        | yes h ↦ omega (arith, relaxed-on k y h, relaxed-far k y)
-        | no h ↦ omega (arith, relaxed-off k y (omega arith), relaxed-far k y)
-      ]
-
-  module _ (place x n : ℕ) where
-    -- Cleared words are those by no level.
-    pub level-none : {old part : List ℕ} → Runs old part place n (λ (q : ℕ). far) → Runs part part place n (λ (q : ℕ). least 0 (x + q))
-    unfolding relaxedAt
-    level-none w = record { long = refl; inside = w .inside; outside = λ q h. refl }
-
-    module _ {old part : List ℕ} (j : ℕ) (w : Runs old part place n (λ (q : ℕ). least j (x + q))) where
-      -- None of them is above `far`.
-      pub level-low : (m : ℕ) → m ≤ n → Low part place m
-      level-low m h = record { low = λ q l. omega (arith, w .inside q (omega arith), relaxed-far j (x + q)) }
-
-      -- The words by one level more: where the move is lawful, the least of what they were and what the move gives.
-      pub level-on : (new : List ℕ) (m : ℕ) → let u = p * levels + j in
-          m ≡ min n (getD reaches u 0 - x)
-          → Runs part new place m (λ (q : ℕ). min (getD part (place + q) 0) (getD times u 0 + getD table (at + j * cells + (x + getD shifts u 0) + q) 0))
-          → Runs old new place n (λ (q : ℕ). least (j + 1) (x + q))
-      level-on new m e v =
-          let u = p * levels + j in
-          let s = getD shifts u 0 in
-          rw (add-one j)
-          record {
-            long = v .long ∙ w .long;
-            inside = λ q l.
-                elim (decLt (x + q) (getD reaches u 0)) [
-                  | yes h ↦
-                      let z : at + j * cells + (x + s) + q ≡ at + j * cells + (x + q + s) = omega arith in
-                      v .inside q (omega arith)
-                      ∙ ap₂ (λ (a b : ℕ). min a (getD times u 0 + getD table b 0)) (w .inside q l) z
-                      ∙ sym (relaxed-on j (x + q) h)
-                  | no h ↦ v .outside (place + q) (inr (omega arith)) ∙ w .inside q l ∙ sym (relaxed-off j (x + q) (omega arith))
-                ];
-            outside = λ q h. v .outside q (outside-part place n place m q (omega arith) (omega arith) h) ∙ w .outside q h;
-          }
-
-      -- Where the move is lawful for none of them, they stay as they were.
-      pub level-off : getD reaches (p * levels + j) 0 ≤ x → Runs old part place n (λ (q : ℕ). least (j + 1) (x + q))
-      level-off h = rw (add-one j) record { long = w .long; inside = λ q l. w .inside q l ∙ sym (relaxed-off j (x + q) (omega arith)); outside = w .outside }
-
--- A run of a level's words from x on: none is above `far`.
-pub lows-run : {levels cells at x : ℕ} {table : List ℕ} → Lows levels cells at x table → (j y m : ℕ) → j < levels → x ≤ y → y + m ≤ cells → Low table (at + j * cells + y) m
-lows-run {levels} {cells} {at} {x} {table} w j y m hj h l =
-    record {
-      low = λ q g.
-          let z : at + j * cells + y + q ≡ at + j * cells + (y + q) = omega arith in
-          rw z (w .low j (y + q) hj (omega arith) (omega arith));
-    }
 
 -- A move leads to a word of its level.
 pub move-within : {levels cells : ℕ} {shifts reaches times : List ℕ} → Moving levels cells shifts reaches times → (p j : ℕ) → p < levels → j < levels
@@ -123,13 +62,13 @@ move-within {levels} mv p j hp hj = mv .within (p * levels + j) (move-lt levels 
 pub parted-none : (part : List ℕ) (n : ℕ) (f : ℕ → ℕ → ℕ) → Parted part part 0 n f
 parted-none part n f = record { long = refl; inside = λ p q h l. absurd (omega arith) }
 
-pub parted-more : {old part new : List ℕ} {p n : ℕ} {f : ℕ → ℕ → ℕ} → n ≤ 128 → Parted old part p n f → Runs part new (p * 128) n (f p) → Parted old new (p + 1) n f
+pub parted-more : {old part new : List ℕ} {p n : ℕ} {f : ℕ → ℕ → ℕ} → n ≤ partSize → Parted old part p n f → Runs part new (p * partSize) n (f p) → Parted old new (p + 1) n f
 parted-more {old} {part} {new} {p} {n} {f} h v w =
     record {
       long = w .long ∙ v .long;
       inside = λ k q l g.
           elim (decLt k p) [
-            | yes z ↦ w .outside (k * 128 + q) (inl (omega arith)) ∙ v .inside k q z g
+            | yes z ↦ w .outside (k * partSize + q) (inl (omega arith)) ∙ v .inside k q z g
             | no z ↦
                 let e : k ≡ p = omega arith in
                 rw e (w .inside q g)
@@ -217,8 +156,8 @@ module _ {levels cells at x : ℕ} {old mid : List ℕ} {f : ℕ → ℕ → ℕ
     -- The words from x to x + n after those before x.
     pub levels-on : (was part new : List ℕ) (n : ℕ) → x + n ≤ cells
         → ((p y : ℕ) → f p y ≡ settled (relaxedAt shifts reaches times old levels cells at p levels y))
-        → Parted was part levels n (λ (p q : ℕ). relaxedAt shifts reaches times mid levels cells at p levels (x + q))
-        → Levels mid new at levels cells x (x + n) (λ (p y : ℕ). settled (getD part (p * 128 + (y - x)) 0))
+        → Parted was part levels n (λ (p q : ℕ). settled (relaxedAt shifts reaches times mid levels cells at p levels (x + q)))
+        → Levels mid new at levels cells x (x + n) (λ (p y : ℕ). getD part (p * partSize + (y - x)) 0)
         → Levels old new at levels cells 0 (x + n) f
     levels-on was part new n room is d w =
         record {
@@ -228,8 +167,9 @@ module _ {levels cells at x : ℕ} {old mid : List ℕ} {f : ℕ → ℕ → ℕ
                 | yes z ↦ w .level p y h (omega arith) (inl z) ∙ v .inside p y h l z
                 | no z ↦
                     let e : x + (y - x) ≡ y = omega arith in
-                    let r = d .inside p (y - x) h (omega arith) ∙ relaxed-kept p h levels (x + (y - x)) (omega arith) (omega arith) in
+                    let r = relaxed-kept p h levels (x + (y - x)) (omega arith) (omega arith) in
                     w .inside p y h (omega arith) g
+                    ∙ d .inside p (y - x) h (omega arith)
                     ∙ ap settled (r ∙ ap (relaxedAt shifts reaches times old levels cells at p levels) e)
                     ∙ sym (is p y)
               ];

@@ -1,1 +1,2 @@
 pub mod Leveling
+pub mod Opening

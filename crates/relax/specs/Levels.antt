@@ -6,10 +6,15 @@ use mathlib.Core.Path.{_≡_}
 use mathlib.Core.Bool.{cond}
 use mathlib.Core.Logic.{_⊎_}
 use mathlib.Core.List.{List}
-use Prim.Native.Nat.{ℕ, zero, suc, _+_, _*_, _≤_, _<_, min}
+use Prim.Native.Nat.{ℕ, zero, suc, _+_, _*_, _-_, _≤_, _<_, min}
 use lib.Dec.{ltb}
 use lib.ListN.{length, getD}
 use Rattle.runs.specs.Runs.{far}
+use Rattle.ways.specs.Ways.{leastBy}
+
+-- The words of a level that are worked on at once.
+abbrev pub partSize : ℕ
+partSize = 384
 
 -- The moves' figures, and what sums and places rest on: a move leads to a word of its level.
 pub record Moving (levels cells : ℕ) (shifts reaches times : List ℕ) : Type 0 where
@@ -32,10 +37,21 @@ relaxedAt shifts reaches times table levels cells at p (suc k) y =
     let u : ℕ = p * levels + k in
     cond (ltb y (getD reaches u 0)) (min least (getD times u 0 + getD table (at + k * cells + (y + getD shifts u 0)) 0)) least
 
--- Each of the first `levels` parts of 128 words has n words of its level. What else the parts hold is open: they are scratch.
+-- The ways to the first k levels that are open to the words from y to `to`, all of them, for level p before: where they lead, what
+-- they take, and that no other way is open.
+pub record Open (shifts reaches times : List ℕ) (levels cells at p k y end count to : ℕ) (froms costs : List ℕ) : Type 0 where
+  pub some : y < to
+  pub within : to ≤ end
+  pub few : count ≤ k
+  pub room : (w : ℕ) → w < count → getD froms w 0 + (to - y) ≤ at + levels * cells
+  pub low : (t : List ℕ) → Lows levels cells at y t → (w q : ℕ) → w < count → q < to - y → getD t (getD froms w 0 + q) 0 ≤ far
+  pub short : (w : ℕ) → w < count → getD costs w 0 ≤ 20000000
+  pub exact : (t : List ℕ) (q : ℕ) → q < to - y → leastBy t froms costs count q ≡ relaxedAt shifts reaches times t levels cells at p k (y + q)
+
+-- Each of the first `levels` parts has n words of its level. What else the parts hold is open: they are scratch.
 pub record Parted (old new : List ℕ) (levels n : ℕ) (f : ℕ → ℕ → ℕ) : Type 0 where
   pub long : length new ≡ length old
-  pub inside : (p q : ℕ) → p < levels → q < n → getD new (p * 128 + q) 0 ≡ f p q
+  pub inside : (p q : ℕ) → p < levels → q < n → getD new (p * partSize + q) 0 ≡ f p q
 
 -- The words from lo to hi of each level hold f; all other words of the table are as they were.
 pub record Levels (old new : List ℕ) (at levels cells lo hi : ℕ) (f : ℕ → ℕ → ℕ) : Type 0 where

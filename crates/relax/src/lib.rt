@@ -2,7 +2,16 @@ ghost use mathlib.Core.Path.{_≡_};
 ghost use Prim.Native.Nat.{ℕ, _+_, _*_, _-_, _≤_, _<_, min};
 ghost use lib.ListN.{length, getD};
 ghost use Rattle.runs.specs.Runs.{settled, Runs};
-ghost use Rattle.relax.specs.Levels.{Moving, Lows, relaxedAt, Parted, Levels};
+ghost use Rattle.relax.specs.Levels.{partSize, Moving, Lows, relaxedAt, Open, Parted, Levels};
+
+// The words of a level that are worked on at once.
+const PART_SIZE: usize = 384;
+
+// How many ways are open to a span of words, and where it ends.
+struct Span {
+    count: usize,
+    to: usize,
+}
 
 // The lesser of two numbers.
 fn fewest(a: usize, b: usize) -> usize
@@ -11,7 +20,45 @@ fn fewest(a: usize, b: usize) -> usize
     if a < b { a } else { b }
 }
 
-// Works out n words, from word x on, for the level p before, into that level's part.
+// Finds the ways that are open to the words from word y on, for the level p before. The span ends where the first of them does, so
+// that each is open to all of it.
+fn find_ways(
+    at: usize,
+    levels: usize,
+    cells: usize,
+    shifts: &[u32],
+    reaches: &[u32],
+    times: &[u32],
+    p: usize,
+    y: usize,
+    end: usize,
+    froms: &mut [usize],
+    costs: &mut [u32],
+) -> Span
+    requires { ⌜ Moving levels cells (now shifts) (now reaches) (now times) ⌝ }
+    requires { ⌜ (at + levels * cells ≤ 4194304) × (p < levels) × (y < end) × (end ≤ cells) ⌝ }
+    requires { ⌜ (8 ≤ length (now froms)) × (8 ≤ length (now costs)) ⌝ }
+    ensures { λ r. ⌜ Open (now (shifts .entry)) (now (reaches .entry)) (now (times .entry)) levels cells at p levels y end (r .count) (r .to) (now (froms .exit)) (now (costs .exit)) ⌝ }
+    ensures { λ r. ⌜ (length (now (froms .exit)) ≡ length (now (froms .entry))) × (length (now (costs .exit)) ≡ length (now (costs .entry))) ⌝ }
+{
+    let mut count: usize = 0;
+    let mut to = end;
+    let mut j: usize = 0;
+    while j < levels {
+        let u = p * levels + j;
+        let reach = reaches[u] as usize;
+        if y < reach {
+            froms[count] = at + j * cells + (y + shifts[u] as usize);
+            costs[count] = times[u];
+            count += 1;
+            to = fewest(to, reach);
+        }
+        j += 1;
+    }
+    Span { count, to }
+}
+
+// Works out n words, from word x on, for the level p before, into that level's part, span by span.
 fn relax_level(
     table: &[u32],
     part: &mut [u32],
@@ -26,27 +73,30 @@ fn relax_level(
     n: usize,
 )
     requires { ⌜ Moving levels cells (now shifts) (now reaches) (now times) ⌝ }
-    requires { ⌜ (at + levels * cells ≤ length (now table)) × (at + levels * cells ≤ 4194304) × (1024 ≤ length (now part)) ⌝ }
-    requires { ⌜ (p < levels) × (n ≤ 128) × (x + n ≤ cells) × (Lows levels cells at x (now table)) ⌝ }
-    ensures { λ r. ⌜ Runs (now (part .entry)) (now (part .exit)) (p * 128) n (λ (q : ℕ). relaxedAt (now (shifts .entry)) (now (reaches .entry)) (now (times .entry)) (now (table .entry)) levels cells at p levels (x + q)) ⌝ }
+    requires { ⌜ (at + levels * cells ≤ length (now table)) × (at + levels * cells ≤ 4194304) × (3072 ≤ length (now part)) ⌝ }
+    requires { ⌜ (p < levels) × (n ≤ partSize) × (x + n ≤ cells) × (Lows levels cells at x (now table)) ⌝ }
+    ensures { λ r. ⌜ Runs (now (part .entry)) (now (part .exit)) (p * partSize) n (λ (q : ℕ). settled (relaxedAt (now (shifts .entry)) (now (reaches .entry)) (now (times .entry)) (now (table .entry)) levels cells at p levels (x + q))) ⌝ }
 {
-    runs::clear(part, p * 128, n);
-    let mut j: usize = 0;
-    while j < levels {
-        let u = p * levels + j;
-        let reach = reaches[u] as usize;
-        if x < reach {
-            let shift = shifts[u] as usize;
-            runs::relax(
-                part,
-                p * 128,
-                table,
-                at + j * cells + (x + shift),
-                fewest(n, reach - x),
-                times[u],
-            );
-        }
-        j += 1;
+    let mut froms = [0usize; 8];
+    let mut costs = [0u32; 8];
+    let mut y = x;
+    while y < x + n {
+        let s = find_ways(
+            at,
+            levels,
+            cells,
+            shifts,
+            reaches,
+            times,
+            p,
+            y,
+            x + n,
+            &mut froms,
+            &mut costs,
+        );
+        let place = p * PART_SIZE + (y - x);
+        ways::take_span(table, part, place, s.to - y, &froms, &costs, s.count);
+        y = s.to;
     }
 }
 
@@ -64,9 +114,9 @@ fn relax_part(
     n: usize,
 )
     requires { ⌜ Moving levels cells (now shifts) (now reaches) (now times) ⌝ }
-    requires { ⌜ (at + levels * cells ≤ length (now table)) × (at + levels * cells ≤ 4194304) × (1024 ≤ length (now part)) ⌝ }
-    requires { ⌜ (n ≤ 128) × (x + n ≤ cells) × (Lows levels cells at x (now table)) ⌝ }
-    ensures { λ r. ⌜ Parted (now (part .entry)) (now (part .exit)) levels n (λ (p q : ℕ). relaxedAt (now (shifts .entry)) (now (reaches .entry)) (now (times .entry)) (now (table .entry)) levels cells at p levels (x + q)) ⌝ }
+    requires { ⌜ (at + levels * cells ≤ length (now table)) × (at + levels * cells ≤ 4194304) × (3072 ≤ length (now part)) ⌝ }
+    requires { ⌜ (n ≤ partSize) × (x + n ≤ cells) × (Lows levels cells at x (now table)) ⌝ }
+    ensures { λ r. ⌜ Parted (now (part .entry)) (now (part .exit)) levels n (λ (p q : ℕ). settled (relaxedAt (now (shifts .entry)) (now (reaches .entry)) (now (times .entry)) (now (table .entry)) levels cells at p levels (x + q))) ⌝ }
 {
     let mut p: usize = 0;
     while p < levels {
@@ -88,7 +138,7 @@ fn relax_part(
 }
 
 // Writes n finished words of every level before to the table, from word x on.
-fn settle_part(
+fn copy_part(
     table: &mut [u32],
     part: &[u32],
     at: usize,
@@ -97,13 +147,13 @@ fn settle_part(
     x: usize,
     n: usize,
 )
-    requires { ⌜ (at + levels * cells ≤ length (now table)) × (at + levels * cells ≤ 4194304) × (1024 ≤ length (now part)) ⌝ }
-    requires { ⌜ (levels ≤ 8) × (n ≤ 128) × (x + n ≤ cells) ⌝ }
-    ensures { λ r. ⌜ Levels (now (table .entry)) (now (table .exit)) at levels cells x (x + n) (λ (p y : ℕ). settled (getD (now (part .entry)) (p * 128 + (y - x)) 0)) ⌝ }
+    requires { ⌜ (at + levels * cells ≤ length (now table)) × (at + levels * cells ≤ 4194304) × (3072 ≤ length (now part)) ⌝ }
+    requires { ⌜ (levels ≤ 8) × (n ≤ partSize) × (x + n ≤ cells) ⌝ }
+    ensures { λ r. ⌜ Levels (now (table .entry)) (now (table .exit)) at levels cells x (x + n) (λ (p y : ℕ). getD (now (part .entry)) (p * partSize + (y - x)) 0) ⌝ }
 {
     let mut p: usize = 0;
     while p < levels {
-        runs::settle(table, at + p * cells + x, part, p * 128, n);
+        runs::copy(table, at + p * cells + x, part, p * PART_SIZE, n);
         p += 1;
     }
 }
@@ -121,14 +171,14 @@ pub fn relax_words(
     times: &[u32],
 )
     requires { ⌜ Moving levels cells (now shifts) (now reaches) (now times) ⌝ }
-    requires { ⌜ (at + levels * cells ≤ length (now table)) × (at + levels * cells ≤ 4194304) × (1024 ≤ length (now part)) × (Lows levels cells at 0 (now table)) ⌝ }
+    requires { ⌜ (at + levels * cells ≤ length (now table)) × (at + levels * cells ≤ 4194304) × (3072 ≤ length (now part)) × (Lows levels cells at 0 (now table)) ⌝ }
     ensures { λ r. ⌜ Levels (now (table .entry)) (now (table .exit)) at levels cells 0 cells (λ (p y : ℕ). settled (relaxedAt (now (shifts .entry)) (now (reaches .entry)) (now (times .entry)) (now (table .entry)) levels cells at p levels y)) ⌝ }
 {
     let mut x: usize = 0;
     while x < cells {
-        let n = fewest(128, cells - x);
+        let n = fewest(PART_SIZE, cells - x);
         relax_part(table, part, at, levels, cells, shifts, reaches, times, x, n);
-        settle_part(table, part, at, levels, cells, x, n);
+        copy_part(table, part, at, levels, cells, x, n);
         x += n;
     }
 }

@@ -1,10 +1,11 @@
--- A loop that sets a run of words one by one: none, one more, all.
+-- A loop that sets a run of words one by one: none, one more, all; a run behind another; a run by another name.
 -- Assumes nothing.
-use mathlib.Core.Path.{_≡_, refl, _∙_}
+use mathlib.Core.Path.{_≡_, refl, ap, _∙_}
 use mathlib.Core.Logic.{_⊎_, inl, inr, ⊎-elim}
 use mathlib.Core.List.{List}
-use Prim.Native.Nat.{ℕ, _+_, _≤_, _<_}
+use Prim.Native.Nat.{ℕ, _+_, _-_, _≤_, _<_}
 use native.Mathlib.Nat.{eq-or-lt-of-le, le-antisymm}
+use native.Mathlib.Decide.{decLt}
 use native.Mathlib.Omega.{arith}
 use lib.ListN.{length, getD, set, length-set}
 use lib.Seq.{getD-set-same, getD-set-other}
@@ -42,3 +43,23 @@ module _ {old new : List ℕ} {at k : ℕ} {f : ℕ → ℕ} (w : Runs old new a
 
   pub runs-all : {n : ℕ} → k ≤ n → n ≤ k → Runs old new at n f
   runs-all h l = rw (le-antisymm h l) at w
+
+-- A run of n words behind one of m words.
+pub runs-on : {old mid new : List ℕ} {at m n : ℕ} {f g : ℕ → ℕ} → Runs old mid at m f → Runs mid new (at + m) n g → ((k : ℕ) → k < n → g k ≡ f (m + k)) → Runs old new at (m + n) f
+runs-on {new = new} {at} {m} {f = f} v w e =
+    record {
+      long = w .long ∙ v .long;
+      inside =
+          λ k h. elim (decLt k m) [
+            | yes l ↦ w .outside (at + k) (inl (omega arith)) ∙ v .inside k l
+            | no l ↦
+                let i = k - m in
+                let z : m + i ≡ k = omega arith in
+                ap (λ (q : ℕ). getD new q 0) (omega arith) ∙ w .inside i (omega arith) ∙ e i (omega arith) ∙ ap f z
+          ];
+      outside = λ q h. ⊎-elim (λ l. w .outside q (inl (omega arith)) ∙ v .outside q (inl l)) (λ l. w .outside q (inr (omega arith)) ∙ v .outside q (inr (omega arith))) h;
+    }
+
+-- A run that holds the same by another name.
+pub runs-as : {old new : List ℕ} {at n : ℕ} {f g : ℕ → ℕ} → Runs old new at n f → ((k : ℕ) → k < n → f k ≡ g k) → Runs old new at n g
+runs-as w e = record { long = w .long; inside = λ k h. w .inside k h ∙ e k h; outside = w .outside }

@@ -12,6 +12,10 @@ use lib.ListN.{length, getD}
 abbrev pub far : ℕ
 far = 2000000000
 
+-- The most that a word and the time of a move come to: still below 2 ^ 31.
+abbrev pub most : ℕ
+most = 2020000000
+
 -- A word of the next job: its time, or `far` for 4,294,967,295 and whatever is not below `far`.
 abbrev pub near : ℕ → ℕ
 near w = min w far
@@ -26,6 +30,7 @@ pub record Runs (old new : List ℕ) (at n : ℕ) (f : ℕ → ℕ) : Type 0 whe
   pub inside : (k : ℕ) → k < n → getD new (at + k) 0 ≡ f k
   pub outside : (q : ℕ) → (q < at) ⊎ (at + n ≤ q) → getD new q 0 ≡ getD old q 0
 
--- None of the n words from place `at` on is above `far`.
-pub record Low (ws : List ℕ) (at n : ℕ) : Type 0 where
-  pub low : (k : ℕ) → k < n → getD ws (at + k) 0 ≤ far
+-- There are n words, none above `far`.
+pub record Low (n : ℕ) (ws : List ℕ) : Type 0 where
+  pub long : n ≤ length ws
+  pub low : (k : ℕ) → k < n → getD ws k 0 ≤ far

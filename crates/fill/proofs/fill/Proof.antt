@@ -17,7 +17,7 @@ use Rattle.fill.proofs.fill_job.Reads as fill-job-reads
 
 abbrev Inv-loop : tie.InvT-loop
 Inv-loop f figures steady table₀ shifts₀ reaches₀ times₀ part₀ i₀ table shifts reaches times part i =
-    (i ≤ f .jobs) × (length shifts ≡ 64) × (length reaches ≡ 64) × (length times ≡ 64) × (length part ≡ 1024) × FilledFrom (sheetBy f figures) (base (sheetBy f figures) i 0) table₀ table
+    (i ≤ f .jobs) × (length shifts ≡ 64) × (length reaches ≡ 64) × (length times ≡ 64) × (length part ≡ 3072) × FilledFrom (sheetBy f figures) (base (sheetBy f figures) i 0) table₀ table
 
 abbrev μ-loop : tie.MeasureT-loop
 μ-loop f figures steady table₀ shifts₀ reaches₀ times₀ part₀ i₀ table shifts reaches times part i = i

@@ -1,6 +1,7 @@
 use borrow.Author.Needs.{needs}
-use mathlib.Core.Path.{_≡_, ap, _∙_}
+use mathlib.Core.Path.{_≡_, refl, ap, _∙_}
 use Prim.Native.Nat.{ℕ, _*_, _-_, _≤_}
+use native.Mathlib.Nat.{div-le-self}
 use native.Mathlib.Omega.{arith}
 use denote.Ref.{now}
 use Rattle.frame.specs.Run.{State, step, fresh}
@@ -13,99 +14,91 @@ use Rattle.fill.specs.Layer.{warmed, nextCell}
 use Rattle.fill.proofs.Figures.{cell-is, width-small}
 use Rattle.fill.proofs.map_cells.Statement.{statement}
 use Rattle.fill.proofs.map_cells.Tie as tie
-use Rattle.fill.proofs.map_cells.Reads as reads
-use Rattle.fill.proofs.map_cells.Lts as lts
-use Rattle.fill.proofs.cell_of.Reads as cell-of-reads
-use Rattle.run.proofs.Run.fresh.Reads as fresh-reads
-use Rattle.step.proofs.next_job.Reads as next-job-reads
 
 abbrev Inv-loop : tie.InvT-loop
-Inv-loop f figures steady table₀ i j at step width b₀ table b = (b ≤ f .«temperature_cells») × Runs table₀ table at b (nextCell (sheetBy f figures) i j)
+Inv-loop f figures steady table₀ i j at step multiplier width b₀ table b = (b ≤ f .«temperature_cells») × Runs table₀ table at b (nextCell (sheetBy f figures) i j)
 
 abbrev μ-loop : tie.MeasureT-loop
-μ-loop f figures steady table₀ i j at step width b₀ table b = f .«temperature_cells» - b
+μ-loop f figures steady table₀ i j at step multiplier width b₀ table b = f .«temperature_cells» - b
 
--- src/lib.rt:105:16
 cast-step : tie.Need-cast-step Inv-loop μ-loop
 cast-step c = search needs
 
--- src/lib.rt:108:5
+div-multiplier : tie.Need-div-multiplier Inv-loop μ-loop
+div-multiplier c = let g = c .before .before .before .pre .0 .0 in omega (arith, g .temperature-step, g .ranges .temperatureStep .low)
+
+cast-multiplier : tie.Need-cast-multiplier Inv-loop μ-loop
+cast-multiplier c = omega (arith, div-le-self 4294967295 (c .before .before .before .args .f .«temperature_step»))
+
+add-multiplier : tie.Need-add-multiplier Inv-loop μ-loop
+add-multiplier c = omega (arith, div-le-self 4294967295 (c .before .before .before .args .f .«temperature_step»))
+
 loop-holds : tie.Need-loop-holds Inv-loop μ-loop
 loop-holds c = (omega arith, runs-none _ _ _)
 
 -- The temperature of the turn's cell is small.
-warm-small : (c : tie.In-loop Inv-loop μ-loop) → c .before .loop .b * c .before .before .before .before .args .f .«temperature_step» ≤ 39998
+warm-small : (c : tie.In-loop Inv-loop μ-loop) → c .before .loop .b * c .before .before .before .before .before .args .f .«temperature_step» ≤ 39998
 warm-small c =
-    let g = c .before .before .before .before .pre .0 .0 in
+    let g = c .before .before .before .before .before .pre .0 .0 in
     let b = c .before .loop .b in
     omega (arith, ap (λ (h : ℕ). b * h) (g .temperature-step), cell-temperature _ (g .ranges) b (omega (arith, c .loop-test .taken, g .temperature-cells)))
 
--- src/lib.rt:109:52
 mul-fresh : tie.Need-mul-fresh Inv-loop μ-loop
 mul-fresh c = omega (arith, warm-small c)
 
--- src/lib.rt:109:32
 fresh-requires : tie.Need-fresh-requires Inv-loop μ-loop
 fresh-requires c κs = search needs
 
--- src/lib.rt:109:13
 next-job-requires : tie.Need-next-job-requires Inv-loop μ-loop
 next-job-requires c κs =
-    let a = c .before .before .before .before .before .pre .0 in
+    let a = c .before .before .before .before .before .before .pre .0 in
     let ok = a .0 .ranges in
     let z = c .fresh .ensures in
     rests (a .1) _ _ ok (omega (arith, ap (λ (q : State). q.done) z, a .2, ok .jobs .high)) (omega (arith, ap (λ (q : State). q.level) z, a .3, ok .levels .high)) (omega (arith, a .3, ok .levels .high)) (omega (arith, ap (λ (q : State). q.time) z)) (omega (arith, ap (λ (q : State). q.energy) z)) (omega (arith, ap (λ (q : State). q.temperature) z, warm-small (c .before)))
 
 -- The temperature after the job, by the definitions.
-warms : (c : tie.After-next-job Inv-loop μ-loop) → let a = c .before .before .before .before .before .before .args in
+warms : (c : tie.After-next-job Inv-loop μ-loop) → let a = c .before .before .before .before .before .before .before .args in
     c .next-job .result .temperature ≡ warmed (sheetBy (a .f) (now (a .figures))) (a .i) (a .j) (c .before .before .before .loop .b * (sheetBy (a .f) (now (a .figures))) .temperatureStep)
 warms c =
-    let a = c .before .before .before .before .before .before in
+    let a = c .before .before .before .before .before .before .before in
     let s = sheetBy (a .args .f) (now (a .args .figures)) in
     ap (λ (q : State). q.temperature) (c .next-job .ensures s (a .pre .0 .1) ∙ ap (λ (q : State). step s q (a .args .j)) (c .before .fresh .ensures))
     ∙ ap (λ (h : ℕ). warmed s (a .args .i) (a .args .j) (c .before .before .before .loop .b * h)) (a .pre .0 .0 .temperature-step)
 
--- src/lib.rt:110:25
 cell-of-requires : tie.Need-cell-of-requires Inv-loop μ-loop
 cell-of-requires c κs =
-    let g = c .before .before .before .before .before .before .pre .0 .0 in
-    (omega (arith, g .temperature-limit, g .ranges .temperatureLimit), omega (arith, g .temperature-step, g .ranges .temperatureStep .low), omega (arith, g .temperature-step, g .ranges .temperatureStep .high), width-small g)
+    let g = c .before .before .before .before .before .before .before .pre .0 .0 in (
+      (omega (arith, g .temperature-limit, g .ranges .temperatureLimit), omega (arith, g .temperature-step, g .ranges .temperatureStep .low), omega (arith, g .temperature-step, g .ranges .temperatureStep .high), width-small g),
+      refl,
+    )
 
--- src/lib.rt:110:15
 add-table : tie.Need-add-table Inv-loop μ-loop
-add-table c = omega (arith, width-small (c .before .before .before .before .before .before .before .pre .0 .0), c .before .before .before .before .loop .inv, c .before .before .before .loop-test .taken, c .before .before .before .before .before .before .before .pre .1, c .before .before .before .before .before .before .before .pre .0 .0 .temperature-cells)
+add-table c = omega (arith, width-small (c .before .before .before .before .before .before .before .before .pre .0 .0), c .before .before .before .before .loop .inv, c .before .before .before .loop-test .taken, c .before .before .before .before .before .before .before .before .pre .1, c .before .before .before .before .before .before .before .before .pre .0 .0 .temperature-cells)
 
--- src/lib.rt:110:9
 mul-table : tie.Need-mul-table Inv-loop μ-loop
-mul-table c = omega (arith, width-small (c .before .before .before .before .before .before .before .pre .0 .0), c .before .before .before .before .loop .inv, c .before .before .before .loop-test .taken, c .before .before .before .before .before .before .before .pre .1, c .before .before .before .before .before .before .before .pre .0 .0 .temperature-cells)
+mul-table c = omega (arith, width-small (c .before .before .before .before .before .before .before .before .pre .0 .0), c .before .before .before .before .loop .inv, c .before .before .before .loop-test .taken, c .before .before .before .before .before .before .before .before .pre .1, c .before .before .before .before .before .before .before .before .pre .0 .0 .temperature-cells)
 
--- src/lib.rt:110:9
 slice-write-table : tie.Need-slice-write-table Inv-loop μ-loop
-slice-write-table c = omega (arith, c .before .before .before .before .loop .inv .1 .long, c .before .before .before .before .loop .inv, c .before .before .before .loop-test .taken, c .before .before .before .before .before .before .before .pre .1, c .before .before .before .before .before .before .before .pre .0 .0 .temperature-cells)
+slice-write-table c = omega (arith, c .before .before .before .before .loop .inv .1 .long, c .before .before .before .before .loop .inv, c .before .before .before .loop-test .taken, c .before .before .before .before .before .before .before .before .pre .1, c .before .before .before .before .before .before .before .before .pre .0 .0 .temperature-cells)
 
--- src/lib.rt:111:9
 add-b : tie.Need-add-b Inv-loop μ-loop
-add-b c = omega (arith, width-small (c .before .before .before .before .before .before .before .pre .0 .0), c .before .before .before .loop-test .taken)
+add-b c = omega (arith, width-small (c .before .before .before .before .before .before .before .before .pre .0 .0), c .before .before .before .loop-test .taken)
 
--- src/lib.rt:108:5
 loop-less : tie.Need-loop-less Inv-loop μ-loop
 loop-less c = omega (arith, c .before .before .before .loop-test .taken)
 
--- src/lib.rt:108:5
 loop-again : tie.Need-loop-again Inv-loop μ-loop
 loop-again c =
-    let a = c .before .before .before .before .before .before .before in
+    let a = c .before .before .before .before .before .before .before .before in
     let l = c .before .before .before .before .loop in
     (omega (arith, c .before .before .before .loop-test .taken), runs-more (l .inv .1) (c .before .before .before .loop-test .taken) (omega (arith, a .pre .1, a .pre .0 .0 .temperature-cells)) _ (cell-is (a .pre .0 .0) _ _ _ _ _ (warms (c .before)) (c .cell-of .ensures)))
 
--- src/lib.rt:90:1
 same-length : tie.Need-same-length Inv-loop μ-loop
 same-length c = c .before .loop .inv .1 .long
 
--- src/lib.rt:90:1
 returns : tie.Need-returns Inv-loop μ-loop
 returns c =
-    let a = c .before .before .before .before in
+    let a = c .before .before .before .before .before in
     let l = c .before .loop in
     runs-all (l .inv .1) (omega (arith, l .inv .0, a .pre .0 .0 .temperature-cells)) (omega (arith, c .loop-test .left, a .pre .0 .0 .temperature-cells))
 
@@ -116,6 +109,9 @@ map-cells-spec =
     Inv-loop
     μ-loop
     cast-step
+    div-multiplier
+    cast-multiplier
+    add-multiplier
     loop-holds
     mul-fresh
     fresh-requires

@@ -1,6 +1,7 @@
 use Prim.Native.Nat.{ℕ, _+_, _-_, _≤_}
 use native.Mathlib.Nat.{le-antisymm}
 use native.Mathlib.Omega.{arith}
+use Rattle.runs.specs.Runs.{settled}
 use Rattle.relax.specs.Levels.{relaxedAt, Parted}
 use Rattle.relax.proofs.Leveling.{parted-none, parted-more}
 use Rattle.relax.proofs.relax_part.Statement.{statement}
@@ -8,7 +9,7 @@ use Rattle.relax.proofs.relax_part.Tie as tie
 
 abbrev Inv-loop : tie.InvT-loop
 Inv-loop table part₀ at levels cells shifts reaches times x n p₀ part p =
-    (p ≤ levels) × Parted part₀ part p n (λ (k q : ℕ). relaxedAt shifts reaches times table levels cells at k levels (x + q))
+    (p ≤ levels) × Parted part₀ part p n (λ (k q : ℕ). settled (relaxedAt shifts reaches times table levels cells at k levels (x + q)))
 
 abbrev μ-loop : tie.MeasureT-loop
 μ-loop table part₀ at levels cells shifts reaches times x n p₀ part p = levels - p

@@ -4,7 +4,7 @@ use native.Mathlib.Nat.{le-antisymm}
 use native.Mathlib.Omega.{arith}
 use lib.ListN.{length}
 use Rattle.runs.specs.Runs.{settled}
-use Rattle.relax.specs.Levels.{relaxedAt, Levels}
+use Rattle.relax.specs.Levels.{partSize, relaxedAt, Levels}
 use Rattle.relax.proofs.Leveling.{levels-none, levels-on, lows-kept}
 use borrow.Author.Needs.{needs}
 use Rattle.relax.proofs.relax_words.Statement.{statement}
@@ -28,8 +28,8 @@ sub-fewest c = c .before .loop .inv .0
 fewest-requires : tie.Need-fewest-requires Inv-loop μ-loop
 fewest-requires c κs = search needs
 
--- The run of the turn: some words, at most 128, and all of them the level's.
-run-some : (c : tie.After-fewest Inv-loop μ-loop) → (0 < c .fewest .result) × (c .fewest .result ≤ 128) × (c .before .before .loop .x + c .fewest .result ≤ c .before .before .before .before .before .before .before .before .args .cells)
+-- The run of the turn: some words, no more than a part has, and all of them the level's.
+run-some : (c : tie.After-fewest Inv-loop μ-loop) → (0 < c .fewest .result) × (c .fewest .result ≤ partSize) × (c .before .before .loop .x + c .fewest .result ≤ c .before .before .before .before .before .before .before .before .args .cells)
 run-some c = (omega (arith, c .fewest .ensures, c .before .loop-test .taken), omega (arith, c .fewest .ensures), omega (arith, c .fewest .ensures, c .before .loop-test .taken))
 
 relax-part-requires : tie.Need-relax-part-requires Inv-loop μ-loop
@@ -40,8 +40,8 @@ relax-part-requires c κs =
     let same = l .inv .2 .long in
     (a .0, ((omega (arith, a .1 .0, same), omega (arith, a .1 .1, same), omega (arith, a .1 .2, l .inv .1)), (r .1, omega (arith, r .2), lows-kept (l .inv .2) (a .1 .3))))
 
-settle-part-requires : tie.Need-settle-part-requires Inv-loop μ-loop
-settle-part-requires c κs =
+copy-part-requires : tie.Need-copy-part-requires Inv-loop μ-loop
+copy-part-requires c κs =
     let a = c .before .before .before .before .before .before .before .before .before .before .before .before .before .before .before .pre in
     let l = c .before .before .before .before .before .before .before .before .before .loop in
     let r = run-some (c .before .before .before .before .before .before .before) in
@@ -59,7 +59,7 @@ loop-again c =
     let l = c .before .before .before .before .before .before .before .before .before .before .before .before .loop in
     let r = run-some (c .before .before .before .before .before .before .before .before .before .before) in
     let parted = c .before .before .before .before .before .before .before .relax-part .ensures in
-    (r .2, parted .long ∙ l .inv .1, levels-on (l .inv .2) (c .before .before .before .before .before .before .before .before .before .before .before .before .before .before .before .before .before .before .pre .0) _ _ _ _ (r .2) (λ p y. refl) parted (c .before .before .settle-part .ensures))
+    (r .2, parted .long ∙ l .inv .1, levels-on (l .inv .2) (c .before .before .before .before .before .before .before .before .before .before .before .before .before .before .before .before .before .before .pre .0) _ _ _ _ (r .2) (λ p y. refl) parted (c .before .before .copy-part .ensures))
 
 same-length : tie.Need-same-length Inv-loop μ-loop
 same-length c = c .before .loop .inv .2 .long
@@ -71,4 +71,4 @@ returns : tie.Need-returns Inv-loop μ-loop
 returns c = rw (le-antisymm (c .before .loop .inv .0) (c .loop-test .left)) at (c .before .loop .inv .2)
 
 pub relax-words-spec : {M : Type 1} → statement M
-relax-words-spec = tie.close (tie.spec Inv-loop μ-loop loop-holds sub-fewest fewest-requires relax-part-requires settle-part-requires add-x loop-less loop-again same-length same-length-2 returns)
+relax-words-spec = tie.close (tie.spec Inv-loop μ-loop loop-holds sub-fewest fewest-requires relax-part-requires copy-part-requires add-x loop-less loop-again same-length same-length-2 returns)

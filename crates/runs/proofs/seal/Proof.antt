@@ -1,12 +1,22 @@
+use native.Mathlib.Omega.{arith}
 use borrow.Author.Tests.{lt-ltb, le-ltb}
+use borrow.Author.Needs.{needs}
+use Rattle.runs.specs.Runs.{far}
+use Rattle.runs.proofs.Signs.{signed-below, signed-above}
 use Rattle.runs.proofs.seal.Statement.{statement}
 use Rattle.runs.proofs.seal.Tie as tie
 
+cast-if1 : tie.Need-cast-if1
+cast-if1 c = search needs
+
+cast-if1-2 : tie.Need-cast-if1-2
+cast-if1-2 c = search needs
+
 returns : tie.Need-returns
-returns c = simp (lt-ltb _ _ (c .if1 .taken))
+returns c = let a = c .before .pre in simp (lt-ltb _ _ (signed-below {a = c .before .args .w} {b = far} (omega (arith, a)) (omega arith) (c .if1 .taken)))
 
 returns-2 : tie.Need-returns-2
-returns-2 c = simp (le-ltb _ _ (c .if1 .left))
+returns-2 c = let a = c .before .pre in simp (le-ltb _ _ (signed-above {a = c .before .args .w} {b = far} (omega (arith, a)) (omega arith) (c .if1 .left)))
 
 pub seal-spec : {M : Type 1} → statement M
-seal-spec = tie.close (tie.spec returns returns-2)
+seal-spec = tie.close (tie.spec cast-if1 cast-if1-2 returns returns-2)

@@ -1,0 +1,54 @@
+use mathlib.Core.Path.{sym}
+use borrow.Author.Needs.{needs}
+use Rattle.runs.proofs.Running.{runs-as}
+use Rattle.ways.proofs.Slots.{none-open}
+use Rattle.ways.proofs.take_span.Statement.{statement}
+use Rattle.ways.proofs.take_span.Tie as tie
+
+set-requires : tie.Need-set-requires
+set-requires c κs = search needs
+
+same-length : tie.Need-same-length
+same-length c = search needs
+
+returns : tie.Need-returns
+returns c = runs-as (c .before .before .set .ensures) (λ q l. rw (c .before .before .before .before .if1 .taken) (sym (none-open _ _ _ q)))
+
+by-two-requires : tie.Need-by-two-requires
+by-two-requires c κs = search needs
+
+same-length-2 : tie.Need-same-length-2
+same-length-2 c = search needs
+
+returns-2 : tie.Need-returns-2
+returns-2 c = search needs
+
+by-four-requires : tie.Need-by-four-requires
+by-four-requires c κs = search needs
+
+same-length-3 : tie.Need-same-length-3
+same-length-3 c = search needs
+
+returns-3 : tie.Need-returns-3
+returns-3 c = search needs
+
+by-six-requires : tie.Need-by-six-requires
+by-six-requires c κs = search needs
+
+same-length-4 : tie.Need-same-length-4
+same-length-4 c = search needs
+
+returns-4 : tie.Need-returns-4
+returns-4 c = search needs
+
+by-eight-requires : tie.Need-by-eight-requires
+by-eight-requires c κs = search needs
+
+same-length-5 : tie.Need-same-length-5
+same-length-5 c = search needs
+
+returns-5 : tie.Need-returns-5
+returns-5 c = search needs
+
+pub take-span-spec : {M : Type 1} → statement M
+take-span-spec = tie.close (tie.spec set-requires same-length returns by-two-requires same-length-2 returns-2 by-four-requires same-length-3 returns-3 by-six-requires same-length-4 returns-4 by-eight-requires same-length-5 returns-5)
