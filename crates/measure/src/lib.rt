@@ -5,6 +5,7 @@ ghost use Rattle.frame.specs.Sheet.{Ranges};
 ghost use Rattle.sheet.specs.Frame.{frameOf};
 ghost use Rattle.frame.specs.Limits.{margins};
 ghost use Rattle.measure.specs.Measure.{firstAbove, measuredAs, refusedAs, measureOf};
+use run::Run;
 use sheet::Reading;
 use sheet::Refusal;
 
@@ -46,7 +47,10 @@ fn margins_of(r: Reading, levels: &[u8]) -> Measured
     let deadline = r.deadline as u64;
     let budget = r.energy_budget as u64;
     let limit = r.temperature_limit as u64;
-    let st = step::run_levels(r, levels, levels.len());
+    let states = step::steady_states(&r.figures, r.resistance);
+    let steady = states.levels;
+    let first = Run::start(r.start_level, r.start_temperature as u64);
+    let st = step::run_levels(first, &r.figures, &steady, levels, levels.len());
     let time = margin::margin(deadline, st.time);
     let energy = margin::margin(budget, st.energy);
     let temperature = margin::margin(limit, st.peak);

@@ -29,13 +29,21 @@ fn put_job(s: &[u8], p: usize, text: &mut [u8], at: usize, run: Run) -> usize
 }
 
 // Writes the Q lines of a list of levels from `at` on.
-fn put_jobs(s: &[u8], r: Reading, levels: &[u8], text: &mut [u8], at: usize) -> usize
+fn put_jobs(
+    s: &[u8],
+    r: Reading,
+    figures: &[u32; 1672],
+    levels: &[u8],
+    text: &mut [u8],
+    at: usize,
+) -> usize
+    requires { ⌜ now figures ≡ r .figures ⌝ }
     requires { ⌜ (r ≡ sheetOf (now s)) × (r .refusal ≡ Nothing) ⌝ }
     requires { ⌜ (r .jobs ≤ length (now levels)) × ((i : ℕ) → i < r .jobs → getD (now levels) i 0 < 8) × (at + r .jobs * 63 ≤ length (now text)) ⌝ }
     ensures { λ q. ⌜ Wrote (now (text .entry)) at (jobLines (nameOf (now (s .entry))) (frameOf r) 0 (start (frameOf r)) (take (r .jobs) (now (levels .entry)))) (now (text .exit)) q ⌝ }
     ensures { λ q. ⌜ q ≤ at + r .jobs * 63 ⌝ }
 {
-    let states = step::steady_states(&r.figures, r.resistance);
+    let states = step::steady_states(figures, r.resistance);
     let steady = states.levels;
     let l = r.levels as usize;
     let mut run = Run::start(r.start_level, r.start_temperature as u64);
@@ -43,7 +51,7 @@ fn put_jobs(s: &[u8], r: Reading, levels: &[u8], text: &mut [u8], at: usize) -> 
     let mut q = at;
     let mut i: usize = 0;
     while i < r.jobs as usize {
-        run = step::next_job(run, &r.figures, &steady, levels[i] as u32);
+        run = step::next_job(run, figures, &steady, levels[i] as u32);
         q = put_job(s, p, text, q, run);
         p = names::skip_lines(s, p, l + 1);
         i += 1;
@@ -51,18 +59,29 @@ fn put_jobs(s: &[u8], r: Reading, levels: &[u8], text: &mut [u8], at: usize) -> 
     q
 }
 
-// Writes the text of a list of levels: the P line of its figures, and a Q line for each job.
-pub fn put_plan(s: &[u8], r: Reading, levels: &[u8], text: &mut [u8]) -> usize
+// Writes the text of a list of levels: the P line of its figures, and a Q line for each job. The reading's figures are lent beside
+// it, as for the planner.
+pub fn put_plan(
+    s: &[u8],
+    r: Reading,
+    figures: &[u32; 1672],
+    levels: &[u8],
+    text: &mut [u8],
+) -> usize
+    requires { ⌜ now figures ≡ r .figures ⌝ }
     requires { ⌜ (r ≡ sheetOf (now s)) × (r .refusal ≡ Nothing) ⌝ }
     requires { ⌜ (r .jobs ≤ length (now levels)) × ((i : ℕ) → i < r .jobs → getD (now levels) i 0 < 8) × (4096 ≤ length (now text)) ⌝ }
     ensures { λ q. ⌜ Wrote (now (text .entry)) 0 (planText (now (s .entry)) (frameOf r) (take (r .jobs) (now (levels .entry)))) (now (text .exit)) q ⌝ }
     ensures { λ q. ⌜ q ≤ 4096 ⌝ }
 {
     let m = r.jobs as u64;
-    let run = step::run_levels(r, levels, m as usize);
+    let states = step::steady_states(figures, r.resistance);
+    let steady = states.levels;
+    let first = Run::start(r.start_level, r.start_temperature as u64);
+    let run = step::run_levels(first, figures, &steady, levels, m as usize);
     let time = run.time;
     let energy = run.energy;
     let temperature = run.temperature;
     let at = plan_lines::put_plan_line(text, 0, m, time, energy, temperature);
-    put_jobs(s, r, levels, text, at)
+    put_jobs(s, r, figures, levels, text, at)
 }

@@ -115,14 +115,22 @@ fn find_plan(
 }
 
 // Plans a frame whose table and part are large enough.
-fn plan_frame(r: Reading, f: Frame, table: &mut [u32], part: &mut [u8]) -> Reply
+fn plan_frame(
+    r: Reading,
+    figures: &[u32; 1672],
+    f: Frame,
+    table: &mut [u32],
+    part: &mut [u8],
+) -> Reply
+    requires { ⌜ now figures ≡ r .figures ⌝ }
     requires { ⌜ (Ranges (frameOf r)) × (f ≡ axesOf r) × (need (frameOf r) ≤ 4194304) × (need (frameOf r) ≤ length (now table)) × (r .jobs ≤ length (now part)) ⌝ }
     ensures { λ q. ⌜ Answers (found (frameOf r) (frameOutcome (frameOf r))) (now (table .entry)) (now (table .exit)) (now (part .entry)) (now (part .exit)) q ⌝ }
 {
-    let states = step::steady_states(&r.figures, r.resistance);
+    let states = step::steady_states(figures, r.resistance);
     let steady = states.levels;
-    if find_plan(f, &r.figures, &steady, table, part) {
-        let run = step::run_levels(r, part, r.jobs as usize);
+    if find_plan(f, figures, &steady, table, part) {
+        let first = Run::start(r.start_level, r.start_temperature as u64);
+        let run = step::run_levels(first, figures, &steady, part, r.jobs as usize);
         return Reply {
             refusal: 0,
             line: 0,
@@ -136,8 +144,10 @@ fn plan_frame(r: Reading, f: Frame, table: &mut [u32], part: &mut [u8]) -> Reply
     refuse(10, 0, 0)
 }
 
-// Plans a sheet that was read: levels to `part`, least times to `table`.
-pub fn plan_read(r: Reading, table: &mut [u32], part: &mut [u8]) -> Reply
+// Plans a sheet that was read: levels to `part`, least times to `table`. The reading's figures are lent beside it: a lent field
+// of a parameter would be copied to the stack.
+pub fn plan_read(r: Reading, figures: &[u32; 1672], table: &mut [u32], part: &mut [u8]) -> Reply
+    requires { ⌜ now figures ≡ r .figures ⌝ }
     requires { ⌜ (r .refusal ≡ Nothing → Ranges (frameOf r)) ⌝ }
     ensures { λ q. ⌜ Answers (answerTo r (length (now (table .entry))) (length (now (part .entry)))) (now (table .entry)) (now (table .exit)) (now (part .entry)) (now (part .exit)) q ⌝ }
 {
@@ -157,7 +167,7 @@ pub fn plan_read(r: Reading, table: &mut [u32], part: &mut [u8]) -> Reply
     if part.len() < jobs {
         return refuse(9, 0, 0);
     }
-    plan_frame(r, f, table, part)
+    plan_frame(r, figures, f, table, part)
 }
 
 // Plans a sheet: levels to `part`, least times to `table`.
@@ -166,5 +176,5 @@ pub fn plan(s: &[u8], table: &mut [u32], part: &mut [u8]) -> Reply
     ensures { λ q. ⌜ Demands (now (s .entry)) (length (now (table .entry))) (length (now (part .entry))) (now (part .exit)) q ⌝ }
 {
     let r = sheet::read(s);
-    plan_read(r, table, part)
+    plan_read(r, &r.figures, table, part)
 }

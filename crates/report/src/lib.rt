@@ -32,7 +32,7 @@ pub fn write_plan(s: &[u8], text: &mut [u8]) -> Report
     let mut table = [0u32; 16384];
     let mut levels = [0u8; 64];
     let r = sheet::read(s);
-    let p = planner::plan_read(r, &mut table, &mut levels);
+    let p = planner::plan_read(r, &r.figures, &mut table, &mut levels);
     let refusal = p.refusal;
     let line = p.line;
     let field = p.field;
@@ -47,7 +47,7 @@ pub fn write_plan(s: &[u8], text: &mut [u8]) -> Report
     if 9 < refusal {
         return refuse(10, 0, 0);
     }
-    let n = plan_text::put_plan(s, r, &levels, text);
+    let n = plan_text::put_plan(s, r, &r.figures, &levels, text);
     Report {
         refusal: 0,
         line: 0,

@@ -6,9 +6,11 @@ use mathlib.Core.List.{List}
 use Prim.Native.Nat.{ℕ, _+_, _*_, _<_, _^_}
 use lib.ListN.{getD}
 use Rattle.thermal.specs.Thermal.{steadyState, RuleDomain}
-use Rattle.frame.specs.Sheet.{Sheet, steadyOf}
+use Rattle.frame.specs.Sheet.{Sheet, Ranges, steadyOf}
+use Rattle.frame.specs.Run.{start}
 use Rattle.frame.specs.Table.{tabulate}
 use Rattle.run.specs.declared.Run.{Run}
+use Rattle.run.specs.Run.{stateOf}
 
 -- "The level's steady rise is P × R / 10,000 to the nearest whole number", for each of 8 levels.
 unfoldable pub steadies : List ℕ → ℕ → List ℕ
@@ -31,3 +33,10 @@ pub record Rests (a : Run) (figures steady : List ℕ) (j : ℕ) : Type 0 where
   pub time : a.time < 2 ^ 63
   pub energy : a.energy < 2 ^ 63
   pub rule : RuleDomain a.temperature (getD steady j 0) (getD figures (1160 + (a.done * 8 + j)) 0)
+
+-- The run is at the start of a sheet in its ranges, whose figures these are.
+pub record Started (a : Run) (figures steady : List ℕ) : Type 0 where
+  pub sheet : Sheet
+  pub ranges : Ranges sheet
+  pub stored : Stored sheet figures steady
+  pub start : stateOf a ≡ start sheet

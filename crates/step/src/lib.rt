@@ -5,12 +5,10 @@ ghost use Rattle.thermal.specs.Thermal.{steadyState};
 ghost use Rattle.frame.specs.Sheet.{Sheet, Ranges};
 ghost use Rattle.frame.specs.Run.{start, step, exactRun};
 ghost use Rattle.run.specs.Run.{stateOf};
-ghost use Rattle.sheet.specs.Frame.{frameOf};
-ghost use Rattle.step.specs.Store.{steadies, Stored, Rests};
+ghost use Rattle.step.specs.Store.{steadies, Stored, Rests, Started};
 use run::Change;
 use run::Job;
 use run::Run;
-use sheet::Reading;
 
 // The steady-state temperature of each level.
 pub struct Steady {
@@ -74,18 +72,23 @@ pub fn next_job(run: Run, figures: &[u32; 1672], steady: &[u32; 8], j: u32) -> R
     run.after(j, c, b)
 }
 
-// Runs the first n levels of a list without rounding, from the sheet's start.
-pub fn run_levels(r: Reading, levels: &[u8], n: usize) -> Run
-    requires { ⌜ (Ranges (frameOf r)) × (n ≤ 64) × (n ≤ length (now levels)) × ((i : ℕ) → i < n → getD (now levels) i 0 < 8) ⌝ }
-    ensures { λ q. ⌜ stateOf q ≡ exactRun (frameOf r) (start (frameOf r)) (take n (now (levels .entry))) ⌝ }
+// Runs the first n levels of a list without rounding, from the start of every sheet whose figures these are.
+pub fn run_levels(
+    first: Run,
+    figures: &[u32; 1672],
+    steady: &[u32; 8],
+    levels: &[u8],
+    n: usize,
+) -> Run
+    requires { ⌜ Started first (now figures) (now steady) ⌝ }
+    requires { ⌜ (n ≤ 64) × (n ≤ length (now levels)) × ((i : ℕ) → i < n → getD (now levels) i 0 < 8) ⌝ }
+    ensures { λ q. ⌜ ((s : Sheet) → Ranges s → Stored s (now (figures .entry)) (now (steady .entry)) → stateOf first ≡ start s → stateOf q ≡ exactRun s (start s) (take n (now (levels .entry)))) ⌝ }
 {
-    let states = steady_states(&r.figures, r.resistance);
-    let steady = states.levels;
-    let mut st = Run::start(r.start_level, r.start_temperature as u64);
+    let mut run = first;
     let mut i: usize = 0;
     while i < n {
-        st = next_job(st, &r.figures, &steady, levels[i] as u32);
+        run = next_job(run, figures, steady, levels[i] as u32);
         i += 1;
     }
-    st
+    run
 }

@@ -7,57 +7,66 @@ use borrow.Author.Needs.{needs}
 use Rattle.frame.specs.Run.{start, exactRun}
 use Rattle.run.specs.Run.{stateOf}
 use Rattle.sheet.specs.Frame.{frameOf}
+use Rattle.step.specs.Store.{Stored}
+use Rattle.step.specs.declared.Steady.{Steady}
+use Rattle.step.proofs.Store.{steady-in, read-stored}
 use Rattle.measure.proofs.Replies.{Under, measured-under, margins-are}
 use Rattle.measure.proofs.margins_of.Statement.{statement}
 use Rattle.measure.proofs.margins_of.Tie as tie
-use Rattle.measure.proofs.margins_of.Reads as reads
-use Rattle.measure.proofs.margins_of.Lts as lts
-use Rattle.margin.proofs.margin.Reads as margin-reads
-use Rattle.step.proofs.run_levels.Reads as run-levels-reads
 
--- src/lib.rt:102:20
 cast-deadline : tie.Need-cast-deadline
 cast-deadline c = search needs
 
--- src/lib.rt:103:18
 cast-budget : tie.Need-cast-budget
 cast-budget c = search needs
 
--- src/lib.rt:104:17
 cast-limit : tie.Need-cast-limit
 cast-limit c = search needs
 
--- src/lib.rt:105:9
+steady-states-requires : tie.Need-steady-states-requires
+steady-states-requires c κs = λ j h. let a = c .before .before .before in rw (steady-in (a .args .t1) j h) (a .pre .0 .steady j)
+
+-- The store and the steady-state temperatures are those of the sheet that was read.
+stored : (c : tie.After-steady-states) → let r = c .before .before .before .before .args .t1 in Stored (frameOf r) (r .figures) (c .steady-states .result .levels)
+stored c = rw (ap (λ (q : Steady). q .levels) (c .steady-states .ensures)) (read-stored _)
+
+cast-start : tie.Need-cast-start
+cast-start c = search needs
+
+start-requires : tie.Need-start-requires
+start-requires c κs = search needs
+
 run-levels-requires : tie.Need-run-levels-requires
+unfolding frameOf
 run-levels-requires c κs =
-    let a = c .before .before .before .before in
-    (a .pre .0, a .pre .1, omega arith, λ i h. a .pre .2 i)
+    let a = c .before .before .before .before .before .before .before .before .before in
+    (record { sheet = frameOf (a .args .t1); ranges = a .pre .0; stored = stored (c .before .before .before .before .before); start = c .before .before .before .start .ensures }, (a .pre .1, omega arith, λ i h. a .pre .2 i))
 
 -- The whole list was run.
-ran : (c : tie.After-run-levels) → let a = c .before .before .before .before .before .args in stateOf (c .run-levels .result) ≡ exactRun (frameOf (a .r)) (start (frameOf (a .r))) (a .levels .now)
+ran : (c : tie.After-run-levels) → let a = c .before .before .before .before .before .before .before .before .before .before .args in stateOf (c .run-levels .result) ≡ exactRun (frameOf (a .t1)) (start (frameOf (a .t1))) (a .levels .now)
+unfolding frameOf
 ran c =
-    let a = c .before .before .before .before .before .args in
-    c .run-levels .ensures ∙ ap (exactRun (frameOf (a .r)) (start (frameOf (a .r)))) (take-length (a .levels .now))
+    let a = c .before .before .before .before .before .before .before .before .before .before in
+    c .run-levels .ensures (frameOf (a .args .t1)) (a .pre .0) (stored (c .before .before .before .before .before .before)) (c .before .before .before .before .start .ensures) ∙ ap (exactRun (frameOf (a .args .t1)) (start (frameOf (a .args .t1)))) (take-length (a .args .levels .now))
 
 -- No figure of the run leaves a signed 64-bit number.
 under : (c : tie.After-run-levels) → Under (stateOf (c .run-levels .result))
 under c =
-    let a = c .before .before .before .before .before in
+    let a = c .before .before .before .before .before .before .before .before .before .before in
     rw (ran c) (measured-under (a .pre .0) (a .args .levels .now) (a .pre .1))
 
--- src/lib.rt:106:9
 margin-requires : tie.Need-margin-requires
-margin-requires c κs = omega (arith, under c)
+unfolding frameOf
+margin-requires c κs = omega (arith, under c, c .before .before .before .before .before .before .before .before .before .before .pre .0 .deadline)
 
--- src/lib.rt:107:9
 margin-requires-2 : tie.Need-margin-requires-2
-margin-requires-2 c κs = omega (arith, under (c .before))
+unfolding frameOf
+margin-requires-2 c κs = omega (arith, under (c .before), c .before .before .before .before .before .before .before .before .before .before .before .pre .0 .energyBudget)
 
--- src/lib.rt:108:9
 margin-requires-3 : tie.Need-margin-requires-3
-margin-requires-3 c κs = omega (arith, under (c .before .before))
+unfolding frameOf
+margin-requires-3 c κs = omega (arith, under (c .before .before), c .before .before .before .before .before .before .before .before .before .before .before .before .pre .0 .temperatureLimit)
 
--- src/lib.rt:98:1
 returns : tie.Need-returns
 unfolding frameOf
 returns c =
@@ -67,14 +76,4 @@ returns c =
     (toZ-ofZ {w = w64} {z = c .margin3 .result} (record { sfits = c .margin3 .ok }) ∙ c .margin3 .ensures)
 
 pub margins-of-spec : {M : Type 1} → statement M
-margins-of-spec =
-    tie.close
-    (tie.spec
-    cast-deadline
-    cast-budget
-    cast-limit
-    run-levels-requires
-    margin-requires
-    margin-requires-2
-    margin-requires-3
-    returns)
+margins-of-spec = tie.close (tie.spec cast-deadline cast-budget cast-limit steady-states-requires cast-start start-requires run-levels-requires margin-requires margin-requires-2 margin-requires-3 returns)

@@ -19,174 +19,122 @@ use Rattle.plan_text.proofs.Writing.{room-left, Writing, writing-start,
 use borrow.Author.Needs.{needs}
 use Rattle.plan_text.proofs.put_jobs.Statement.{statement}
 use Rattle.plan_text.proofs.put_jobs.Tie as tie
-use Rattle.plan_text.proofs.put_jobs.Reads as reads
-use Rattle.plan_text.proofs.put_jobs.Lts as lts
-use Rattle.names.proofs.skip_lines.Reads as skip-lines-reads
-use Rattle.plan_text.proofs.put_job.Reads as put-job-reads
-use Rattle.run.proofs.Run.start.Reads as start-reads
-use Rattle.step.proofs.next_job.Reads as next-job-reads
-use Rattle.step.proofs.steady_states.Reads as steady-states-reads
 
 abbrev Inv-loop : tie.InvT-loop
-Inv-loop s levels text₀ at r steady l run₀ p₀ q₀ i₀ text run p q i = Writing s r levels text₀ at text run p q i
+Inv-loop s r figures levels text₀ at steady l run₀ p₀ q₀ i₀ text run p q i = Writing s r levels text₀ at text run p q i
 
 abbrev μ-loop : tie.MeasureT-loop
-μ-loop s levels text₀ at r steady l run₀ p₀ q₀ i₀ text run p q i = r .jobs - i
+μ-loop s r figures levels text₀ at steady l run₀ p₀ q₀ i₀ text run p q i = r .jobs - i
 
 -- The sheet that was read keeps its ranges.
-ranges : (c : tie.Start Inv-loop μ-loop) → Ranges (frameOf (c .args .t2))
-ranges c = reading-ranges _ _ (c .pre .0 .0) (c .pre .0 .1)
+ranges : (c : tie.Start Inv-loop μ-loop) → Ranges (frameOf (c .args .r))
+ranges c = reading-ranges _ _ (c .pre .1 .0 .0) (c .pre .1 .0 .1)
 
--- src/lib.rt:39:9
 steady-states-requires : tie.Need-steady-states-requires Inv-loop μ-loop
-steady-states-requires c κs = λ j h. let a = c .before .before .before .before .before in rw (steady-in (a .args .t2) j h) (ranges a .steady j)
+steady-states-requires c κs = λ j h. let a = c .before .before .before in rw (a .pre .0, steady-in (a .args .r) j h) (ranges a .steady j)
 
--- src/lib.rt:41:13
 cast-l : tie.Need-cast-l Inv-loop μ-loop
 cast-l c = search needs
 
--- src/lib.rt:42:45
 cast-start : tie.Need-cast-start Inv-loop μ-loop
 cast-start c = search needs
 
--- src/lib.rt:42:9
 start-requires : tie.Need-start-requires Inv-loop μ-loop
 start-requires c κs = search needs
 
 -- There are at most 8 levels, so few lines come before the first J line.
-jobs-most : (c : tie.Start Inv-loop μ-loop) → c .args .t2 .jobs ≤ 64
+jobs-most : (c : tie.Start Inv-loop μ-loop) → c .args .r .jobs ≤ 64
 unfolding frameOf
 jobs-most c = ranges c .jobs .high
 
-few : (c : tie.Start Inv-loop μ-loop) → (c .args .t2 .levels ≤ 8) × (c .args .t2 .levels * c .args .t2 .levels ≤ 64)
+few : (c : tie.Start Inv-loop μ-loop) → (c .args .r .levels ≤ 8) × (c .args .r .levels * c .args .r .levels ≤ 64)
 unfolding frameOf
 few c = let l = ranges c .levels .high in (l, omega (arith, mul-le-mul l l))
 
--- src/lib.rt:43:41
 add-skip-lines : tie.Need-add-skip-lines Inv-loop μ-loop
 add-skip-lines c = omega (arith, few (c .before .before .before .before .before .before .before .before))
 
--- src/lib.rt:43:49
 mul-skip-lines : tie.Need-mul-skip-lines Inv-loop μ-loop
 mul-skip-lines c = omega (arith, few (c .before .before .before .before .before .before .before .before))
 
--- src/lib.rt:43:41
 add-skip-lines-2 : tie.Need-add-skip-lines-2 Inv-loop μ-loop
 add-skip-lines-2 c = omega (arith, few (c .before .before .before .before .before .before .before .before))
 
--- src/lib.rt:43:9
 skip-lines-requires : tie.Need-skip-lines-requires Inv-loop μ-loop
 skip-lines-requires c κs = search needs
 
--- src/lib.rt:46:5
 loop-holds : tie.Need-loop-holds Inv-loop μ-loop
 unfolding frameOf
 loop-holds c = let a = c .before .before .before .before .before .before .before .before .before in writing-start _ _ _ _ _ _ _ _ (ranges a) (c .before .start .ensures) (omega arith) (c .skip-lines .ensures .0) (c .skip-lines .ensures .1)
 
--- src/lib.rt:46:15
-cast-loop : tie.Need-cast-loop Inv-loop μ-loop
-cast-loop c = search needs
+cast-if1 : tie.Need-cast-if1 Inv-loop μ-loop
+cast-if1 c = search needs
 
--- src/lib.rt:47:54
 shared-slice-read-next-job : tie.Need-shared-slice-read-next-job Inv-loop μ-loop
-shared-slice-read-next-job c = omega (arith, c .before .before .before .before .loop-test .taken, c .before .before .before .before .before .before .before .before .before .before .before .before .before .before .before .pre .1 .0)
+shared-slice-read-next-job c = omega (arith, c .before .before .if1 .taken, c .before .before .before .before .before .before .before .before .before .before .before .before .before .before .pre .1 .1 .0)
 
--- src/lib.rt:47:54
 cast-next-job : tie.Need-cast-next-job Inv-loop μ-loop
-cast-next-job c = search (needs, c .shared-slice-known3 .given (c .before .before .before .before .before .loop .i))
+cast-next-job c = search (needs, c .shared-slice-known3 .given (c .before .before .before .before .loop .i))
 
 -- The store and the steady-state temperatures are those of the sheet that was read.
-stored : (c : tie.After-steady-states Inv-loop μ-loop) → let r = c .before .before .before .before .before .before .args .t2 in Stored (frameOf r) (r .figures) (c .steady-states .result .levels)
-stored c = rw (ap (λ (q : Steady). q .levels) (c .steady-states .ensures)) (read-stored _)
+stored : (c : tie.After-steady-states Inv-loop μ-loop) → let a = c .before .before .before .before .args in Stored (frameOf (a .r)) (a .figures .now) (c .steady-states .result .levels)
+stored c = rw (ap (λ (q : Steady). q .levels) (c .steady-states .ensures), c .before .before .before .before .pre .0) (read-stored _)
 
--- src/lib.rt:47:9
 next-job-requires : tie.Need-next-job-requires Inv-loop μ-loop
 unfolding frameOf
 next-job-requires c κs =
-    let a = c .before .before .before .before .before .before .before .before .before .before .before .before .before .before .before in
-    let g = c .before .before .before .before .before .loop .inv in
+    let a = c .before .before .before .before .before .before .before .before .before .before .before .before .before .before in
+    let g = c .before .before .before .before .loop .inv in
+    let h = c .before .before .if1 .taken in
     let m = ranges a .jobs .high in
-    rests (stored (c .before .before .before .before .before .before .before .before .before)) _ _ (ranges a) (omega (arith, g .small .done, m, c .before .before .before .before .loop-test .taken)) (g .level) (a .pre .1 .1 (c .before .before .before .before .before .loop .i) (c .before .before .before .before .loop-test .taken)) (omega (arith, g .small .time, g .most, m)) (omega (arith, g .small .energy, g .most, m)) (omega (arith, g .small .temperature))
+    rests (stored (c .before .before .before .before .before .before .before .before .before .before)) _ _ (ranges a) (omega (arith, g .small .done, m, h)) (g .level) (a .pre .1 .1 .1 (c .before .before .before .before .loop .i) h) (omega (arith, g .small .time, g .most, m)) (omega (arith, g .small .energy, g .most, m)) (omega (arith, g .small .temperature))
 
 -- The run after the job, by the definitions, and how large its figures are.
-stepped : (c : tie.After-next-job Inv-loop μ-loop) → let a = c .before .before .before .before .before .before .before .before .before .before .before .before .before .before .before .before .args in
-    stateOf (c .next-job .result) ≡ step (frameOf (a .t2)) (stateOf (c .before .before .before .before .before .before .loop .run)) (getD (now (a .levels)) (c .before .before .before .before .before .before .loop .i) 0)
-stepped c = c .next-job .ensures _ (stored (c .before .before .before .before .before .before .before .before .before .before))
+stepped : (c : tie.After-next-job Inv-loop μ-loop) → let a = c .before .before .before .before .before .before .before .before .before .before .before .before .before .before .before .args in
+    stateOf (c .next-job .result) ≡ step (frameOf (a .r)) (stateOf (c .before .before .before .before .before .loop .run)) (getD (now (a .levels)) (c .before .before .before .before .before .loop .i) 0)
+stepped c = c .next-job .ensures _ (stored (c .before .before .before .before .before .before .before .before .before .before .before))
 
-small : (c : tie.After-next-job Inv-loop μ-loop) → Small (suc (c .before .before .before .before .before .before .loop .i)) (stateOf (c .next-job .result))
-small c = rw (stepped c) (small-step (ranges (c .before .before .before .before .before .before .before .before .before .before .before .before .before .before .before .before)) _ (c .before .before .before .before .before .before .loop .inv .small))
+small : (c : tie.After-next-job Inv-loop μ-loop) → Small (suc (c .before .before .before .before .before .loop .i)) (stateOf (c .next-job .result))
+small c = rw (stepped c) (small-step (ranges (c .before .before .before .before .before .before .before .before .before .before .before .before .before .before .before)) _ (c .before .before .before .before .before .loop .inv .small))
 
--- src/lib.rt:48:9
 put-job-requires : tie.Need-put-job-requires Inv-loop μ-loop
 put-job-requires c κs =
-    let a = c .before .before .before .before .before .before .before .before .before .before .before .before .before .before .before .before .before in
-    let g = c .before .before .before .before .before .before .before .loop .inv in
-    let h = c .before .before .before .before .before .before .loop-test .taken in
-    let e = a .pre .0 .0 in
+    let a = c .before .before .before .before .before .before .before .before .before .before .before .before .before .before .before .before in
+    let g = c .before .before .before .before .before .before .loop .inv in
+    let h = c .before .before .before .before .if1 .taken in
+    let e = a .pre .1 .0 .0 in
     let w = small (c .before) in
     let m = jobs-most a in
-    let r = ap (λ (x : Reading). x .refusal) (sym e) ∙ a .pre .0 .1 in
+    let r = ap (λ (x : Reading). x .refusal) (sym e) ∙ a .pre .1 .0 .1 in
     let k = ap (λ (x : Reading). x .jobs) e in (
-      (g .place, omega (arith, ap length (name-here e (ranges a) (a .pre .1 .0) g h), job-name-short (now (a .args .s)) (c .before .before .before .before .before .before .before .loop .i) r (omega (arith, k, h))), omega (arith, g .far, g .long, a .pre .1 .2, h, room-left (c .before .before .before .before .before .before .before .loop .i) (a .args .t2 .jobs) h)),
+      (g .place, omega (arith, ap length (name-here e (ranges a) (a .pre .1 .1 .0) g h), job-name-short (now (a .args .s)) (c .before .before .before .before .before .before .loop .i) r (omega (arith, k, h))), omega (arith, g .far, g .long, a .pre .1 .1 .2, h, room-left (c .before .before .before .before .before .before .loop .i) (a .args .r .jobs) h)),
       (omega (arith, w .time, h, m), omega (arith, w .energy, h, m), omega (arith, w .temperature)),
     )
 
--- src/lib.rt:49:37
 add-skip-lines-3 : tie.Need-add-skip-lines-3 Inv-loop μ-loop
-add-skip-lines-3 c = omega (arith, few (c .before .before .before .before .before .before .before .before .before .before .before .before .before .before .before .before .before .before .before .before))
+add-skip-lines-3 c = omega (arith, few (c .before .before .before .before .before .before .before .before .before .before .before .before .before .before .before .before .before .before .before))
 
--- src/lib.rt:49:9
 skip-lines-requires-2 : tie.Need-skip-lines-requires-2 Inv-loop μ-loop
-skip-lines-requires-2 c κs = c .before .before .before .before .before .before .before .before .before .before .loop .inv .place
+skip-lines-requires-2 c κs = c .before .before .before .before .before .before .before .before .before .loop .inv .place
 
--- src/lib.rt:50:9
 add-i : tie.Need-add-i Inv-loop μ-loop
-add-i c = omega (arith, c .before .before .before .before .before .before .before .before .before .before .loop-test .taken, jobs-most (c .before .before .before .before .before .before .before .before .before .before .before .before .before .before .before .before .before .before .before .before .before))
+add-i c = omega (arith, c .before .before .before .before .before .before .before .before .if1 .taken, jobs-most (c .before .before .before .before .before .before .before .before .before .before .before .before .before .before .before .before .before .before .before .before))
 
--- src/lib.rt:46:5
 loop-less : tie.Need-loop-less Inv-loop μ-loop
-loop-less c = omega (arith, c .before .before .before .before .before .before .before .before .before .before .loop-test .taken)
+loop-less c = omega (arith, c .before .before .before .before .before .before .before .before .if1 .taken)
 
--- src/lib.rt:46:5
 loop-again : tie.Need-loop-again Inv-loop μ-loop
 loop-again c =
-    let a = c .before .before .before .before .before .before .before .before .before .before .before .before .before .before .before .before .before .before .before .before .before in
-    let l = c .before .before .before .before .before .before .before .before .before .before .before .loop in
-    let h = c .before .before .before .before .before .before .before .before .before .before .loop-test .taken in
-    writing-next (a .pre .0 .0) (ranges a) (a .pre .1 .0) (l .inv) h _ _ _ _ (a .pre .1 .1 (l .i) h) (stepped (c .before .before .before .before .before)) (c .before .before .before .put-job .ensures .0) (c .before .before .before .put-job .ensures .1) (c .skip-lines2 .ensures .0) (c .skip-lines2 .ensures .1)
+    let a = c .before .before .before .before .before .before .before .before .before .before .before .before .before .before .before .before .before .before .before .before in
+    let l = c .before .before .before .before .before .before .before .before .before .before .loop in
+    let h = c .before .before .before .before .before .before .before .before .if1 .taken in
+    writing-next (a .pre .1 .0 .0) (ranges a) (a .pre .1 .1 .0) (l .inv) h _ _ _ _ (a .pre .1 .1 .1 (l .i) h) (stepped (c .before .before .before .before .before)) (c .before .before .before .put-job .ensures .0) (c .before .before .before .put-job .ensures .1) (c .skip-lines2 .ensures .0) (c .skip-lines2 .ensures .1)
 
--- src/lib.rt:32:1
 same-length : tie.Need-same-length Inv-loop μ-loop
-same-length c = c .before .loop .inv .long
+same-length c = c .before .before .loop .inv .long
 
--- src/lib.rt:32:1
 returns : tie.Need-returns Inv-loop μ-loop
-returns c = let a = c .before .before .before .before .before .before .before .before .before .before .before in writing-end (a .pre .1 .0) (c .loop-test .left) (a .pre .1 .2) (c .before .loop .inv)
+returns c = let a = c .before .before .before .before .before .before .before .before .before .before .before .before in writing-end (a .pre .1 .1 .0) (c .if1 .left) (a .pre .1 .1 .2) (c .before .before .loop .inv)
 
 pub put-jobs-spec : {M : Type 1} → statement M
-put-jobs-spec =
-    tie.close
-    (tie.spec
-    Inv-loop
-    μ-loop
-    steady-states-requires
-    cast-l
-    cast-start
-    start-requires
-    add-skip-lines
-    mul-skip-lines
-    add-skip-lines-2
-    skip-lines-requires
-    loop-holds
-    cast-loop
-    shared-slice-read-next-job
-    cast-next-job
-    next-job-requires
-    put-job-requires
-    add-skip-lines-3
-    skip-lines-requires-2
-    add-i
-    loop-less
-    loop-again
-    same-length
-    returns)
+put-jobs-spec = tie.close (tie.spec Inv-loop μ-loop steady-states-requires cast-l cast-start start-requires add-skip-lines mul-skip-lines add-skip-lines-2 skip-lines-requires loop-holds cast-if1 shared-slice-read-next-job cast-next-job next-job-requires put-job-requires add-skip-lines-3 skip-lines-requires-2 add-i loop-less loop-again same-length returns)

@@ -4,85 +4,67 @@ use Rattle.planner.proofs.Replies.{answers-sheet, answers-seven, answer
 use borrow.Author.Needs.{needs}
 use Rattle.planner.proofs.plan_read.Statement.{statement}
 use Rattle.planner.proofs.plan_read.Tie as tie
-use Rattle.planner.proofs.plan_read.Reads as reads
-use Rattle.planner.proofs.plan_read.Lts as lts
-use Rattle.planner.proofs.frame_of.Reads as frame-of-reads
-use Rattle.planner.proofs.need_of.Reads as need-of-reads
-use Rattle.planner.proofs.plan_frame.Reads as plan-frame-reads
-use Rattle.planner.proofs.refuse.Reads as refuse-reads
-use Rattle.planner.proofs.refuse_sheet.Reads as refuse-sheet-reads
 
 enum-told : tie.Need-enum-told
 enum-told c = search needs
 
--- src/lib.rt:146:9
 refuse-sheet-requires : tie.Need-refuse-sheet-requires
 refuse-sheet-requires c κs = search needs
 
--- src/lib.rt:146:9
 returns : tie.Need-returns
 returns c = answers-sheet _ _ _ _ (c .before .match .keys2) (c .refuse-sheet .ensures)
 
--- src/lib.rt:148:9
 frame-of-requires : tie.Need-frame-of-requires
-frame-of-requires c κs = c .before .before .before .before .pre (c .enum-told .given .1)
+frame-of-requires c κs = c .before .before .before .before .pre .1 (c .enum-told .given .1)
 
--- src/lib.rt:149:9
 need-of-requires : tie.Need-need-of-requires
-need-of-requires c κs = (c .before .before .before .before .before .pre (c .before .enum-told .given .1), c .frame-of .ensures)
+need-of-requires c κs = (c .before .before .before .before .before .pre .1 (c .before .enum-told .given .1), c .frame-of .ensures)
 
--- src/lib.rt:150:16
 cast-jobs : tie.Need-cast-jobs
 cast-jobs c = search needs
 
--- src/lib.rt:152:9
 refuse-requires : tie.Need-refuse-requires
 refuse-requires c κs = search needs
 
--- src/lib.rt:152:9
 returns-2 : tie.Need-returns-2
 returns-2 c = answers-seven _ _ _ _ (c .before .before .before .before .before .enum-told .given .1) _ (c .before .before .before .need-of .ensures) (omega (arith, c .before .if1 .taken)) (c .refuse .ensures)
 
--- src/lib.rt:155:9
 refuse-requires-2 : tie.Need-refuse-requires-2
 refuse-requires-2 c κs = search needs
 
--- src/lib.rt:155:9
 returns-3 : tie.Need-returns-3
 returns-3 c =
     let m = c .before .before .before .before .before .before .before .before .before .before .args in
     answers-eight (now (m .table)) (now (m .part)) _ _ (c .before .before .before .before .before .before .enum-told .given .1) _ (c .before .before .before .before .need-of .ensures) (omega (arith, c .before .before .if1 .left)) (omega (arith, c .before .if2 .taken)) (c .refuse2 .ensures)
 
--- src/lib.rt:158:9
 refuse-requires-3 : tie.Need-refuse-requires-3
 refuse-requires-3 c κs = search needs
 
--- src/lib.rt:158:9
 returns-4 : tie.Need-returns-4
 returns-4 c =
     let m = c .before .before .before .before .before .before .before .before .before .before .before .args in
     answers-nine (now (m .table)) (now (m .part)) _ _ (c .before .before .before .before .before .before .before .enum-told .given .1) _ (c .before .before .before .before .before .need-of .ensures) (omega (arith, c .before .before .before .if1 .left)) (omega (arith, c .before .before .if2 .left)) (omega (arith, c .before .if3 .taken)) (c .refuse3 .ensures)
 
--- src/lib.rt:160:5
 plan-frame-requires : tie.Need-plan-frame-requires
 plan-frame-requires c κs =
+    let a = c .before .before .before .before .before .before .before .before .before .before .before .before .pre in
     let k = c .before .before .before .before .before .before .need-of .ensures in (
-      c .before .before .before .before .before .before .before .before .before .before .before .before .pre (c .before .before .before .before .before .before .before .before .enum-told .given .1),
-      c .before .before .before .before .before .before .before .frame-of .ensures,
-      omega (arith, k, c .before .before .before .before .if1 .left),
-      omega (arith, k, c .before .before .before .if2 .left),
-      omega (arith, c .before .before .if3 .left),
+      a .0,
+      (
+        a .1 (c .before .before .before .before .before .before .before .before .enum-told .given .1),
+        c .before .before .before .before .before .before .before .frame-of .ensures,
+        omega (arith, k, c .before .before .before .before .if1 .left),
+        omega (arith, k, c .before .before .before .if2 .left),
+        omega (arith, c .before .before .if3 .left),
+      ),
     )
 
--- src/lib.rt:140:1
 same-length : tie.Need-same-length
 same-length c = search needs
 
--- src/lib.rt:140:1
 same-length-2 : tie.Need-same-length-2
 same-length-2 c = search needs
 
--- src/lib.rt:140:1
 returns-5 : tie.Need-returns-5
 returns-5 c =
     let m = c .before .before .before .before .before .before .before .before .before .before .before .before .before .before .before .before .before .args in

@@ -14,48 +14,35 @@ use Rattle.report.proofs.Told.{read-wrote, read-jobs, ranges-jobs, Told
 use borrow.Author.Needs.{needs}
 use Rattle.report.proofs.write_plan.Statement.{statement}
 use Rattle.report.proofs.write_plan.Tie as tie
-use Rattle.report.proofs.write_plan.Reads as reads
-use Rattle.report.proofs.write_plan.Lts as lts
-use Rattle.plan_text.proofs.put_plan.Reads as put-plan-reads
-use Rattle.planner.proofs.plan_read.Reads as plan-read-reads
-use Rattle.report.proofs.refuse.Reads as refuse-reads
-use Rattle.sheet.proofs.read.Reads as read-reads
 
--- src/lib.rt:34:9
 read-requires : tie.Need-read-requires
 read-requires c κs = search needs
 
--- src/lib.rt:35:35
 slice-aggregate-plan-read : tie.Need-slice-aggregate-plan-read
 slice-aggregate-plan-read c = search needs
 
--- src/lib.rt:35:47
 slice-aggregate-plan-read-2 : tie.Need-slice-aggregate-plan-read-2
 slice-aggregate-plan-read-2 c = search needs
 
--- src/lib.rt:35:9
 plan-read-requires : tie.Need-plan-read-requires
-plan-read-requires c κs = reading-ranges _ _ (c .before .before .read .ensures)
+plan-read-requires c κs = (refl, reading-ranges _ _ (c .before .before .before .before .read .ensures))
 
--- src/lib.rt:41:13
 refuse-requires : tie.Need-refuse-requires
 refuse-requires c κs = search needs
 
 -- The planner's answer, with the table and the part inside the call.
-answered : (c : tie.After-plan-read) → let s = now (c .before .before .before .before .before .before .args .s) in
-    Answers (answerIn s) (replicate 16384 0) (c .plan-read .last .1 .0) (replicate 64 0) (c .plan-read .last .1 .1 .0) (c .plan-read .result)
+answered : (c : tie.After-plan-read) → let s = now (c .before .before .before .before .before .before .before .before .args .s) in
+    Answers (answerIn s) (replicate 16384 0) (c .plan-read .last .1 .1 .0) (replicate 64 0) (c .plan-read .last .1 .1 .1 .0) (c .plan-read .result)
 unfolding answerIn
-answered c = answers-read _ _ _ _ _ _ _ (c .before .before .before .read .ensures) (c .plan-read .ensures)
+answered c = answers-read _ _ _ _ _ _ _ (c .before .before .before .before .before .read .ensures) (c .plan-read .ensures)
 
-told : (c : tie.After-plan-read) → Told (now (c .before .before .before .before .before .before .args .s)) (answerIn (now (c .before .before .before .before .before .before .args .s)))
+told : (c : tie.After-plan-read) → let s = now (c .before .before .before .before .before .before .before .before .args .s) in Told s (answerIn s)
 unfolding answerIn
 told c = answer-told _ 16384
 
--- src/lib.rt:41:13
 returns : tie.Need-returns
 returns c = told-refused _ _ _ _ _ _ _ (answerIn _) (told (c .before .before .before .before .before)) (answered (c .before .before .before .before .before)) (c .before .before .if1 .taken) (c .before .if2 .taken) _ (c .refuse .ensures)
 
--- src/lib.rt:45:9
 refuse-requires-2 : tie.Need-refuse-requires-2
 refuse-requires-2 c κs = search needs
 
@@ -63,19 +50,15 @@ refuse-requires-2 c κs = search needs
 other : (c : tie.Joined1) → 0 < c .before .before .before .plan-read .result .refusal → 10 ≤ c .before .before .before .plan-read .result .refusal
 other c h = ⊎-elim (λ w. omega (arith, w .1 .left)) (λ w. absurd (omega (arith, w .left))) (c .if1 .came)
 
--- src/lib.rt:45:9
 returns-2 : tie.Need-returns-2
 returns-2 c = told-narrow _ _ _ _ _ _ _ (other (c .before .before)) (answerIn _) (told (c .before .before .before .before .before)) (answered (c .before .before .before .before .before)) (c .before .if3 .taken) _ (c .refuse2 .ensures)
 
--- src/lib.rt:48:9
 refuse-requires-3 : tie.Need-refuse-requires-3
 refuse-requires-3 c κs = search needs
 
--- src/lib.rt:48:9
 returns-3 : tie.Need-returns-3
 returns-3 c = told-none _ _ _ _ _ _ _ (other (c .before .before .before)) (c .before .before .if3 .left) (answerIn _) (told (c .before .before .before .before .before .before)) (answered (c .before .before .before .before .before .before)) (omega (arith, c .before .if4 .taken)) _ (c .refuse3 .ensures)
 
--- src/lib.rt:50:39
 slice-aggregate-put-plan : tie.Need-slice-aggregate-put-plan
 slice-aggregate-put-plan c = search needs
 
@@ -87,28 +70,32 @@ plan-is c =
       | no h ↦ omega (arith, h)
     ]
 
--- src/lib.rt:50:9
 put-plan-requires : tie.Need-put-plan-requires
 put-plan-requires c κs =
-    let e = c .before .before .before .before .before .before .before .before .before .before .read .ensures in
-    let z = plan-is (c .before .before) in
-    let s = now (c .before .before .before .before .before .before .before .before .before .before .before .before .before .args .s) in
-    let m = told-read s (now (c .before .before .before .before .before .before .before .before .before .before .before .before .before .args .text)) _ _ _ _ _ z (answerIn _) (told (c .before .before .before .before .before .before .before)) (answered (c .before .before .before .before .before .before .before)) in
+    let e = c .before .before .before .before .before .before .before .before .before .before .before .before .before .before .read .ensures in
+    let z = plan-is (c .before .before .before .before) in
+    let a = c .before .before .before .before .before .before .before .before .before .before .before .before .before .before .before .before .before .args in
+    let s = now (a .s) in
+    let w = told (c .before .before .before .before .before .before .before .before .before) in
+    let v = answered (c .before .before .before .before .before .before .before .before .before) in
+    let m = told-read s (now (a .text)) _ _ _ _ _ z (answerIn _) w v in
     let r = ap (λ (x : Reading). x .refusal) e ∙ m in
     let k = ranges-jobs s _ e r in (
-      (e, r),
-      (omega (arith, k, c .before .before .before .before .before .before .before .plan-read .kept .1 .1 .0), λ i h. told-levels s (now (c .before .before .before .before .before .before .before .before .before .before .before .before .before .args .text)) _ _ _ _ _ z (answerIn _) (told (c .before .before .before .before .before .before .before)) (answered (c .before .before .before .before .before .before .before)) i (omega (arith, h, read-jobs s _ e)), c .before .before .before .if3 .left),
+      refl,
+      (
+        (e, r),
+        (omega (arith, k, c .before .before .before .before .before .before .before .before .before .plan-read .kept .1 .1 .1 .0), λ i h. told-levels s (now (a .text)) _ _ _ _ _ z (answerIn _) w v i (omega (arith, h, read-jobs s _ e)), c .before .before .before .before .before .if3 .left),
+      ),
     )
 
--- src/lib.rt:27:1
 same-length : tie.Need-same-length
 same-length c = search needs
 
--- src/lib.rt:27:1
 returns-4 : tie.Need-returns-4
 returns-4 c =
-    let e = c .before .before .before .before .before .before .before .before .before .before .before .before .before .read .ensures in
-    told-plan _ _ _ _ _ _ _ (plan-is (c .before .before .before .before .before)) (answerIn _) (told (c .before .before .before .before .before .before .before .before .before .before)) (answered (c .before .before .before .before .before .before .before .before .before .before)) (c .before .before .before .before .before .before .if3 .left) _ _ _ (c .before .before .put-plan .ensures .1) (read-wrote _ _ _ _ _ _ e (c .before .before .put-plan .ensures .0)) refl
+    let e = c .before .before .before .before .before .before .before .before .before .before .before .before .before .before .before .before .before .read .ensures in
+    let p = c .before .before .put-plan .ensures in
+    told-plan _ _ _ _ _ _ _ (plan-is (c .before .before .before .before .before .before .before)) (answerIn _) (told (c .before .before .before .before .before .before .before .before .before .before .before .before)) (answered (c .before .before .before .before .before .before .before .before .before .before .before .before)) (c .before .before .before .before .before .before .before .before .if3 .left) _ _ _ (p .1) (read-wrote _ _ _ _ _ _ e (p .0)) refl
 
 pub write-plan-spec : {M : Type 1} → statement M
 write-plan-spec =
