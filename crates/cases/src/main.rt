@@ -8,9 +8,7 @@ ghost use Prim.Native.Nat.{_≤_, _<_};
 ghost use lib.ListN.{length};
 use libc::STDOUT_FILENO;
 use measure::Measured;
-use measure::Refused;
 use planner::Reply;
-use sheet::Refusal;
 use std::num;
 use text::Field;
 
@@ -43,28 +41,9 @@ fn print_three(number: u64, line: usize, field: usize) {
     print_number(field as u64);
 }
 
-// Writes the number, line and field of a sheet's refusal.
-fn print_refusal(f: Refusal) {
-    match f {
-        Refusal::Nothing => print_three(0, 0, 0),
-        Refusal::TooLong => print_three(1, 0, 0),
-        Refusal::Line(line) => print_three(2, line, 0),
-        Refusal::Form(line, field) => print_three(3, line, field),
-        Refusal::Range(line, field) => print_three(4, line, field),
-        Refusal::Hot => print_three(5, 2, 8),
-        Refusal::Trailing(line) => print_three(6, line, 0),
-    }
-}
-
 // Writes what a measured list gives.
 fn print_measured(q: Measured) {
-    let f = q.refusal;
-    match f {
-        Refused::Nothing => print_three(0, 0, 0),
-        Refused::Sheet(g) => print_refusal(g),
-        Refused::Length => print_three(11, 0, 0),
-        Refused::Level(place) => print_three(12, 0, place),
-    }
+    print_three(q.refusal as u64, q.line, q.field);
     print_signed(q.time);
     print_signed(q.energy);
     print_signed(q.temperature);

@@ -1,2 +1,3 @@
 pub mod Levels
 pub mod Replies
+pub mod Places

@@ -13,15 +13,13 @@ use Rattle.frame.specs.Run.{State, start, exactRun}
 use Rattle.frame.specs.Limits.{margins}
 use Rattle.run.proofs.Small.{small-start, small-run}
 use Rattle.sheet.specs.declared.Reading.{Reading}
-use Rattle.sheet.specs.declared.Refusal.{Refusal}
-use Rattle.sheet.specs.declared.Refusal.the-variants.{Nothing, TooLong, Line, Form, Range, Hot, Trailing}
-use Rattle.sheet.specs.Reading.{sheetOf}
+use Rattle.sheet.specs.declared.Refusal.the-variants.{Nothing}
+use Rattle.sheet.specs.declared.RefusalCode.{RefusalCode}
+use Rattle.sheet.specs.Reading.{numberOf, lineOf, fieldOf, codeAs, sheetOf}
 use Rattle.sheet.specs.Frame.{frameOf}
-use Rattle.sheet.proofs.Apart.{Refuses, refuses-some}
+use Rattle.sheet.proofs.Apart.{Refuses, refuses-some, accepted-refused}
 use Rattle.sheet.proofs.Ranges.{reading-ranges}
-use Rattle.measure.specs.declared.Refused.the-variants.{Nothing as NoRefusal, Sheet as OfSheet, Length, Level}
-use Rattle.measure.specs.declared.Measured.{Measured}
-use Rattle.measure.specs.Measure.{firstAbove, refusedAs, measuredAs, accepted, measureOf}
+use Rattle.measure.specs.Measure.{firstAbove, refusedAs, measuredAs, turnedAway, measureOf}
 use Rattle.measure.proofs.Levels.{above-here, above-on}
 
 -- ---- how large the figures of a measured list can be
@@ -38,7 +36,7 @@ measured-under {s} r js h = omega (arith, small-run r js 0 (start s) (small-star
 -- The reply that holds the margins of a run.
 pub margins-are : (s : Sheet) (js : List ℕ) (a : State) → a ≡ exactRun s (start s) js → (time energy temperature : ℤ) →
     time ≡ subℕ s.deadline a.time → energy ≡ subℕ s.energyBudget a.energy → temperature ≡ subℕ s.temperatureLimit a.peak →
-    record { refusal = NoRefusal; time = time; energy = energy; temperature = temperature } ≡ measuredAs (margins s js)
+    record { refusal = 0; line = 0; field = 0; time = time; energy = energy; temperature = temperature } ≡ measuredAs (margins s js)
 unfolding margins
 margins-are s js a h time energy temperature x y z = rw (x, y, z, h) refl
 
@@ -58,27 +56,19 @@ below-all l (j ∷ js) h q =
 
 -- ---- the reply
 
-accepted-refused : (f : Refusal) (go : Measured) → ¬ (f ≡ Nothing) → accepted f go ≡ refusedAs (OfSheet f)
-accepted-refused Nothing go h = absurd (h refl)
-accepted-refused TooLong go h = refl
-accepted-refused (Line line) go h = refl
-accepted-refused (Form line field) go h = refl
-accepted-refused (Range line field) go h = refl
-accepted-refused Hot go h = refl
-accepted-refused (Trailing line) go h = refl
-
 module _ (t js : List ℕ) (r : Reading) (e : r ≡ sheetOf t) where
-  pub measure-refused : Refuses (r .refusal) → refusedAs (OfSheet (r .refusal)) ≡ measureOf t js
+  pub measure-refused : (c : RefusalCode) → Refuses (r .refusal) → c ≡ codeAs (numberOf (r .refusal)) (lineOf (r .refusal)) (fieldOf (r .refusal)) →
+      refusedAs (c .number) (c .line) (c .field) ≡ measureOf t js
   unfolding measureOf
-  measure-refused h = rw (sym e) (sym (accepted-refused (r .refusal) _ (refuses-some (r .refusal) h)))
+  measure-refused c h k = rw (sym e, k) (sym (accepted-refused (r .refusal) turnedAway _ (refuses-some (r .refusal) h)))
 
   module _ (n : r .refusal ≡ Nothing) where
-    pub measure-length : (length js ≡ r .jobs → ⊥) → refusedAs Length ≡ measureOf t js
+    pub measure-length : (length js ≡ r .jobs → ⊥) → refusedAs 11 0 0 ≡ measureOf t js
     unfolding measureOf
     measure-length h = rw (sym e, n, ne-eqb (length js) (r .jobs) h) refl
 
     module _ (m : length js ≡ r .jobs) (k : ℕ) (q : k ≡ firstAbove (r .levels) js) where
-      pub measure-level : k < length js → refusedAs (Level k) ≡ measureOf t js
+      pub measure-level : k < length js → refusedAs 12 0 k ≡ measureOf t js
       unfolding measureOf
       measure-level h = rw (sym e, n, eq-eqb (length js) (r .jobs) m, sym q, lt-ltb k (length js) h) refl
 

@@ -9,17 +9,11 @@ use run::Run;
 use sheet::Reading;
 use sheet::Refusal;
 
-// Why a list is not measured.
-pub enum Refused {
-    Nothing,
-    Sheet(Refusal),
-    Length,
-    Level(usize),
-}
-
-// The margins of a list, or why there are none.
+// What the measuring call says of a list: a refusal's number, line and field, or the three margins.
 pub struct Measured {
-    pub refusal: Refused,
+    pub refusal: u32,
+    pub line: usize,
+    pub field: usize,
     pub time: i64,
     pub energy: i64,
     pub temperature: i64,
@@ -55,7 +49,9 @@ fn margins_of(r: Reading, levels: &[u8]) -> Measured
     let energy = margin::margin(budget, st.energy);
     let temperature = margin::margin(limit, st.peak);
     Measured {
-        refusal: Refused::Nothing,
+        refusal: 0,
+        line: 0,
+        field: 0,
         time,
         energy,
         temperature,
@@ -63,11 +59,13 @@ fn margins_of(r: Reading, levels: &[u8]) -> Measured
 }
 
 // A refused list: "Every figure of a refused reply not named is 0."
-fn refuse(refusal: Refused) -> Measured
-    ensures { λ q. ⌜ q ≡ refusedAs refusal ⌝ }
+fn refuse(refusal: u32, line: usize, field: usize) -> Measured
+    ensures { λ q. ⌜ q ≡ refusedAs refusal line field ⌝ }
 {
     Measured {
         refusal,
+        line,
+        field,
         time: 0,
         energy: 0,
         temperature: 0,
@@ -81,14 +79,15 @@ pub fn measure(s: &[u8], levels: &[u8]) -> Measured
     let r = sheet::read(s);
     let f = r.refusal;
     let Refusal::Nothing = f else {
-        return refuse(Refused::Sheet(f));
+        let c = sheet::code_of(f);
+        return refuse(c.number, c.line, c.field);
     };
     if levels.len() != r.jobs as usize {
-        return refuse(Refused::Length);
+        return refuse(11, 0, 0);
     }
     let k = first_above(levels, r.levels);
     if k < levels.len() {
-        return refuse(Refused::Level(k));
+        return refuse(12, 0, k);
     }
     margins_of(r, levels)
 }

@@ -8,8 +8,8 @@ use native.Mathlib.Decide.{decLt}
 use borrow.Author.Tests.{lt-ltb, le-ltb}
 use lib.ListN.{length, take, drop}
 use lib.Seq.{take-at}
-use Rattle.frame.specs.Sheet.{Sheet, Ranges}
-use Rattle.frame.specs.Run.{start}
+use Rattle.frame.specs.Sheet.{Sheet, Between, Ranges}
+use Rattle.frame.specs.Run.{start, exactRun}
 use Rattle.frame.specs.Limits.{tightened}
 use Rattle.frame.specs.Demands as frame
 use Rattle.frame.specs.Demands.{Outcome, planned, noPlan, Figures, figures}
@@ -17,12 +17,12 @@ use Rattle.frame.specs.Plan.{frameOutcome}
 use Rattle.frame.specs.Table.{need}
 use Rattle.frame.proofs.Demand3.{frame-demand2, frame-demand3}
 use Rattle.sheet.specs.declared.Refusal.{Refusal}
-use Rattle.sheet.specs.Reading.{numberOf, lineOf, fieldOf, sheetOf}
+use Rattle.sheet.specs.Reading.{numberOf, lineOf, fieldOf, accepted, sheetOf}
 use Rattle.sheet.specs.Frame.{frameOf}
+use Rattle.sheet.proofs.Apart.{accepted-refused}
 use Rattle.sheet.proofs.Ranges.{read-ranges}
 use Rattle.planner.specs.declared.Reply.{Reply}
-use Rattle.planner.proofs.Replies.{accepted-refused}
-use Rattle.planner.specs.Answer.{refused, found, answerFor, accepted, answerTo, answerOf, refusedAs, plannedAs, Answers}
+use Rattle.planner.specs.Answer.{refused, found, answerFor, turnedAway, answerTo, answerOf, refusedAs, plannedAs, Answers}
 use Rattle.planner.specs.Demands.{Enough, planIn, Fixed, Demand3, Demands}
 
 module _ {s : Sheet} {words bytes : ℕ} {part : List ℕ} {r : Reply} where
@@ -50,6 +50,7 @@ module _ {s : Sheet} {words bytes : ℕ} {part : List ℕ} {r : Reply} where
         ten = ((λ q. absurd (omega arith)), (λ q. absurd (omega (arith, q .0 .size))));
         plan = ((λ q. absurd (omega arith)), (λ q. absurd (omega (arith, q .0 .size))));
         best = λ q. absurd (omega arith);
+        peak = λ q. absurd (omega arith);
         place = λ q. absurd (omega arith);
         zeros = λ q. rw z refl;
       })
@@ -66,6 +67,7 @@ module _ {s : Sheet} {words bytes : ℕ} {part : List ℕ} {r : Reply} where
         ten = ((λ q. absurd (omega arith)), (λ q. absurd (omega (arith, q .0 .table))));
         plan = ((λ q. absurd (omega arith)), (λ q. absurd (omega (arith, q .0 .table))));
         best = λ q. absurd (omega arith);
+        peak = λ q. absurd (omega arith);
         place = λ q. absurd (omega arith);
         zeros = λ q. rw z refl;
       })
@@ -82,6 +84,7 @@ module _ {s : Sheet} {words bytes : ℕ} {part : List ℕ} {r : Reply} where
         ten = ((λ q. absurd (omega arith)), (λ q. absurd (omega (arith, q .0 .part))));
         plan = ((λ q. absurd (omega arith)), (λ q. absurd (omega (arith, q .0 .part))));
         best = λ q. absurd (omega arith);
+        peak = λ q. absurd (omega arith);
         place = λ q. absurd (omega arith);
         zeros = λ q. rw z refl;
       })
@@ -91,10 +94,10 @@ module _ {s : Sheet} {words bytes : ℕ} {part : List ℕ} {r : Reply} where
 
   module _ (w : Enough s words bytes) where
     on-plan : (js : List ℕ) → frame.Best s s.jobs (start s) js → frame.Sound s (tightened s) s.jobs (start s) js →
-        planIn s part ≡ js → r ≡ plannedAs (figures s (start s) js) (r .peak) →
+        planIn s part ≡ js → r ≡ plannedAs (figures s (start s) js) (r .peak) → Between ((exactRun s (start s) js) .peak) s.temperatureLimit (r .peak) →
         Demand3 s words bytes part r
     unfolding figures
-    on-plan js b d p z =
+    on-plan js b d p z v =
         let e = ap (λ (q : Reply). q .refusal) z in
         let k : record { time = r .time; energy = r .energy; temperature = r .temperature } ≡ figures s (start s) js = ap (λ (q : Reply). record { time = q .time; energy = q .energy; temperature = q .temperature }) z in
         record {
@@ -106,6 +109,7 @@ module _ {s : Sheet} {words bytes : ℕ} {part : List ℕ} {r : Reply} where
                 ten = ((λ q. absurd (omega arith)), (λ q. absurd (q .1 js (b .keeps))));
                 plan = ((λ q. (w, (js, b .keeps))), (λ q. e));
                 best = λ q. rw p b;
+                peak = λ q. rw p v;
                 place = λ q. (ap (λ (x : Reply). x .line) z, ap (λ (x : Reply). x .field) z);
                 zeros = λ q. absurd (q e);
               };
@@ -129,6 +133,7 @@ module _ {s : Sheet} {words bytes : ℕ} {part : List ℕ} {r : Reply} where
                 ten = ((λ q. (w, b)), (λ q. e));
                 plan = ((λ q. absurd (omega arith)), (λ q. absurd (b (q .1 .0) (q .1 .1))));
                 best = λ q. absurd (omega arith);
+                peak = λ q. absurd (omega arith);
                 place = λ q. absurd (omega arith);
                 zeros = λ q. rw z refl;
               };
@@ -146,7 +151,7 @@ on-found : (s : Sheet) (o : Outcome) (n : ℕ) (words words' bytes bytes' : List
     Demand3 s n (length bytes) bytes' r
 on-found s (planned js) n words words' bytes bytes' r w b d a =
     on-plan w js b d (ap (take s.jobs) (a .part) ∙ take-at js (drop s.jobs bytes) s.jobs (b .keeps .levels .size))
-    (a .reply)
+    (a .reply) (a .peak)
 on-found s noPlan n words words' bytes bytes' r w b d a = on-none w b d (a .reply)
 
 on-passed : (s : Sheet) → Ranges s → (n : ℕ) (words words' bytes bytes' : List ℕ) (r : Reply) →
@@ -182,9 +187,9 @@ unfolding answerTo answerOf
 demands-hold sheet words words' bytes bytes' r a =
     record {
       fails = λ h.
-          let b : Answers (refused (numberOf ((sheetOf sheet) .refusal)) (lineOf ((sheetOf sheet) .refusal)) (fieldOf ((sheetOf sheet) .refusal))) words words' bytes bytes' r = rw (accepted-refused ((sheetOf sheet) .refusal) _ h) at a in
+          let b : Answers (refused (numberOf ((sheetOf sheet) .refusal)) (lineOf ((sheetOf sheet) .refusal)) (fieldOf ((sheetOf sheet) .refusal))) words words' bytes bytes' r = rw (accepted-refused ((sheetOf sheet) .refusal) turnedAway _ h) at a in
           b .reply;
       passes = λ e.
           on-passed (frameOf (sheetOf sheet)) (read-ranges sheet e) (length words) words words' bytes bytes' r
-          (rw (ap (λ (f : Refusal). accepted f (answerFor (frameOf (sheetOf sheet)) (length words) (length bytes))) e) at a);
+          (rw (ap (λ (f : Refusal). accepted f turnedAway (answerFor (frameOf (sheetOf sheet)) (length words) (length bytes))) e) at a);
     }

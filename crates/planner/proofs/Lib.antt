@@ -1,3 +1,4 @@
 pub mod Demands
 pub mod Replies
 pub mod Ways
+pub mod Need

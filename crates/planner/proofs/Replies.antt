@@ -24,9 +24,9 @@ use Rattle.run.specs.Run.{stateOf}
 use Rattle.run.specs.declared.Run.{Run}
 use Rattle.sheet.specs.declared.Reading.{Reading}
 use Rattle.sheet.specs.declared.Refusal.{Refusal}
-use Rattle.sheet.specs.declared.Refusal.the-variants.{Nothing, TooLong, Line, Form, Range, Hot, Trailing}
-use Rattle.sheet.specs.Reading.{numberOf, lineOf, fieldOf, sheetOf}
-use Rattle.sheet.proofs.Apart.{Refuses, refuses-some}
+use Rattle.sheet.specs.declared.Refusal.the-variants.{Nothing}
+use Rattle.sheet.specs.Reading.{numberOf, lineOf, fieldOf, accepted, sheetOf}
+use Rattle.sheet.proofs.Apart.{Refuses, refuses-some, accepted-refused}
 use Rattle.sheet.specs.Frame.{frameOf}
 use Rattle.step.specs.Store.{Stored}
 use Rattle.table.specs.declared.Frame.{Frame}
@@ -35,17 +35,12 @@ use Rattle.table.proofs.Lookup.{rest-by, rest-least, looks}
 use Rattle.table.proofs.Cells.{filled-words}
 use Rattle.walk.specs.Walk.{Starts}
 use Rattle.planner.specs.declared.Reply.{Reply}
-use Rattle.planner.specs.Answer.{Answer, refused, found, answerFor, accepted, answerTo, answerOf, refusedAs, tableOf, partOf, Answers}
+use Rattle.planner.specs.Answer.{Answer, refused, found, answerFor, turnedAway, answerTo, answerOf, refusedAs, tableOf, partOf, Answers}
 use Rattle.planner.specs.Inner.{isPlan, axesOf, Finds}
 
 -- A quotient that is rounded up is no larger than what is divided.
 pub ceil-most : (x k : ℕ) → 0 < k → ceilDiv x k ≤ x
 ceil-most x k h = ceil-least x k x h .1 (le-mul-of-pos-right x h)
-
--- ---- a sheet that is refused
-
-pub refuse-as : {f g : Refusal} (q : Reply) → f ≡ g → q ≡ refusedAs (numberOf g) (lineOf g) (fieldOf g) → q ≡ refusedAs (numberOf f) (lineOf f) (fieldOf f)
-refuse-as q e h = rw e h
 
 -- ---- the figures that the code hands on are the sheet's
 
@@ -221,15 +216,6 @@ module _ {s : Sheet} (ok : Ranges s) {words words' bytes bytes' : List ℕ} wher
 
 -- ---- the order of the refusals
 
-pub accepted-refused : (f : Refusal) (go : Answer) → ¬ (f ≡ Nothing) → accepted f go ≡ refused (numberOf f) (lineOf f) (fieldOf f)
-accepted-refused Nothing go h = absurd (h refl)
-accepted-refused TooLong go h = refl
-accepted-refused (Line line) go h = refl
-accepted-refused (Form line field) go h = refl
-accepted-refused (Range line field) go h = refl
-accepted-refused Hot go h = refl
-accepted-refused (Trailing line) go h = refl
-
 module _ (words bytes : List ℕ) (r : Reading) (q : Reply) where
   -- Nothing lent is written.
   turned-away : (number line field : ℕ) → answerTo r (length words) (length bytes) ≡ refused number line field → q ≡ refusedAs number line field →
@@ -239,12 +225,12 @@ module _ (words bytes : List ℕ) (r : Reading) (q : Reply) where
   pub answers-sheet : Refuses (r .refusal) → q ≡ refusedAs (numberOf (r .refusal)) (lineOf (r .refusal)) (fieldOf (r .refusal)) →
       Answers (answerTo r (length words) (length bytes)) words words bytes bytes q
   unfolding answerTo
-  answers-sheet h k = turned-away _ _ _ (accepted-refused (r .refusal) _ (refuses-some (r .refusal) h)) k
+  answers-sheet h k = turned-away _ _ _ (accepted-refused (r .refusal) turnedAway _ (refuses-some (r .refusal) h)) k
 
   module _ (m : r .refusal ≡ Nothing) where
     passed : answerTo r (length words) (length bytes) ≡ answerFor (frameOf r) (length words) (length bytes)
     unfolding answerTo
-    passed = ap (λ (f : Refusal). accepted f (answerFor (frameOf r) (length words) (length bytes))) m
+    passed = ap (λ (f : Refusal). accepted f turnedAway (answerFor (frameOf r) (length words) (length bytes))) m
 
     module _ (n : ℕ) (k : n ≡ need (frameOf r)) where
       pub answers-seven : 4194304 < n → q ≡ refusedAs 7 0 0 → Answers (answerTo r (length words) (length bytes)) words words bytes bytes q

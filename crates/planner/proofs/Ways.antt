@@ -8,7 +8,6 @@ use native.Mathlib.Omega.{arith}
 use lib.Dec.{ltb}
 use lib.ListN.{length}
 use borrow.Author.Tests.{ltb-true}
-use Rattle.lines.proofs.Kept.{cond-cases}
 use Rattle.frame.specs.Sheet.{Sheet}
 use Rattle.frame.specs.Run.{start, exactRun}
 use Rattle.frame.specs.Demands.{Outcome, planned, noPlan}
@@ -18,28 +17,19 @@ use Rattle.frame.specs.Plan.{frameOutcome}
 use Rattle.frame.specs.Table.{need}
 use Rattle.frame.proofs.Run.{meets-peak}
 use Rattle.frame.proofs.Demand3.{frame-demand3}
-use Rattle.sheet.specs.declared.Refusal.{Refusal}
-use Rattle.sheet.specs.declared.Refusal.the-variants.{Nothing, TooLong, Line, Form, Range, Hot, Trailing}
+use Rattle.sheet.specs.declared.Refusal.the-variants.{Nothing}
 use Rattle.sheet.specs.Reading.{numberOf, sheetOf}
 use Rattle.sheet.specs.Frame.{frameOf}
+use Rattle.sheet.proofs.Apart.{cond-cases, accepted-ways}
 use Rattle.sheet.proofs.Ranges.{read-ranges}
 use Rattle.planner.specs.declared.Reply.{Reply}
-use Rattle.planner.specs.Answer.{Answer, refused, found, answerFor, turnedAway, accepted, answerTo, answerOf, replyOf, PeakOf, tableOf, partOf, Answers}
+use Rattle.planner.specs.Answer.{Answer, refused, found, answerFor, turnedAway, answerTo, answerOf, replyOf, PeakOf, tableOf, partOf, Answers}
 use Rattle.planner.specs.Demands.{Demands}
 use Rattle.planner.proofs.Demands.{demands-hold}
 
 module _ (P : Answer → Type 0) where
   either : (b : Bool) (x y : Answer) → P x → P y → P (cond b x y)
   either b x y h k = cond-cases P b x y (λ e. h) (λ e. k)
-
-  reading : (f : Refusal) (go : Answer) → (1 ≤ numberOf f → numberOf f ≤ 6 → P (turnedAway f)) → (f ≡ Nothing → P go) → P (accepted f go)
-  reading Nothing go a h = h refl
-  reading TooLong go a h = a (omega arith) (omega arith)
-  reading (Line line) go a h = a (omega arith) (omega arith)
-  reading (Form line field) go a h = a (omega arith) (omega arith)
-  reading (Range line field) go a h = a (omega arith) (omega arith)
-  reading Hot go a h = a (omega arith) (omega arith)
-  reading (Trailing line) go a h = a (omega arith) (omega arith)
 
   module _ (late : (n : ℕ) → 7 ≤ n → n ≤ 8 → P (refused n 0 0)) where
     frame-ways : (s : Sheet) (words bytes : ℕ) → (bytes < s.jobs → P (refused 9 0 0)) → P (found s (frameOutcome s)) → P (answerFor s words bytes)
@@ -54,7 +44,7 @@ module _ (P : Answer → Type 0) where
         ((sheetOf t) .refusal ≡ Nothing → bytes < (frameOf (sheetOf t)) .jobs → P (refused 9 0 0)) →
         ((sheetOf t) .refusal ≡ Nothing → P (found (frameOf (sheetOf t)) (frameOutcome (frameOf (sheetOf t))))) → P (answerOf t words bytes)
     unfolding answerTo answerOf
-    answer-ways t words bytes a nine h = reading ((sheetOf t) .refusal) _ a (λ e. frame-ways (frameOf (sheetOf t)) words bytes (nine e) (h e))
+    answer-ways t words bytes a nine h = accepted-ways P ((sheetOf t) .refusal) turnedAway _ a (λ e. frame-ways (frameOf (sheetOf t)) words bytes (nine e) (h e))
 
 -- ---- the answer's own reply, with the peak of the plan's run
 

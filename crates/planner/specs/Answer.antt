@@ -14,8 +14,7 @@ use Rattle.frame.specs.Plan.{frameOutcome}
 use Rattle.frame.specs.Table.{need, filled}
 use Rattle.sheet.specs.declared.Reading.{Reading}
 use Rattle.sheet.specs.declared.Refusal.{Refusal}
-use Rattle.sheet.specs.declared.Refusal.the-variants.{Nothing, TooLong, Line, Form, Range, Hot, Trailing}
-use Rattle.sheet.specs.Reading.{numberOf, lineOf, fieldOf, sheetOf}
+use Rattle.sheet.specs.Reading.{numberOf, lineOf, fieldOf, accepted, sheetOf}
 use Rattle.sheet.specs.Frame.{frameOf}
 use Rattle.planner.specs.declared.Reply.{Reply}
 
@@ -36,19 +35,9 @@ answerFor s words bytes =
 abbrev pub turnedAway : Refusal → Answer
 turnedAway f = refused (numberOf f) (lineOf f) (fieldOf f)
 
--- What follows the reading of a sheet: its refusal, and else what comes next.
-abbrev pub accepted : Refusal → Answer → Answer
-accepted Nothing go = go
-accepted TooLong go = turnedAway TooLong
-accepted (Line line) go = turnedAway (Line line)
-accepted (Form line field) go = turnedAway (Form line field)
-accepted (Range line field) go = turnedAway (Range line field)
-accepted Hot go = turnedAway Hot
-accepted (Trailing line) go = turnedAway (Trailing line)
-
 -- The answer to a sheet that was read, with a table of so many words and a part of so many bytes.
 unfoldable pub answerTo : Reading → ℕ → ℕ → Answer
-answerTo r words bytes = accepted (r .refusal) (answerFor (frameOf r) words bytes)
+answerTo r words bytes = accepted (r .refusal) turnedAway (answerFor (frameOf r) words bytes)
 
 -- The answer to a sheet.
 unfoldable pub answerOf : List ℕ → ℕ → ℕ → Answer

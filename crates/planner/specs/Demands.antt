@@ -6,8 +6,8 @@ use mathlib.Core.Path.{_≡_}
 use mathlib.Core.List.{List}
 use Prim.Native.Nat.{ℕ, _≤_, _<_}
 use lib.ListN.{take}
-use Rattle.frame.specs.Sheet.{Sheet}
-use Rattle.frame.specs.Run.{start, exact}
+use Rattle.frame.specs.Sheet.{Sheet, Between}
+use Rattle.frame.specs.Run.{start, exact, exactRun}
 use Rattle.frame.specs.Limits.{Meets, limits, tightened}
 use Rattle.frame.specs.Demands.{LevelList, Keeps, Best, Tight, endTime, figures}
 use Rattle.frame.specs.Table.{need}
@@ -47,6 +47,8 @@ pub record Fixed (s : Sheet) (words bytes : ℕ) (part : List ℕ) (r : Reply) :
   -- "of all lists of levels that stay within the limits when rounded up to the grains, the one of least time, and among equals
   -- the first in level order"
   pub best : r .refusal ≡ 0 → Best s s.jobs (start s) (planIn s part)
+  -- "and a peak figure: at least the highest temperature at a job end of that run and at most C"
+  pub peak : r .refusal ≡ 0 → Between ((exactRun s (start s) (planIn s part)) .peak) s.temperatureLimit (r .peak)
   -- a plan's reply holds "line 0, field 0", and "Every figure of a refused reply not named is 0"
   pub place : r .refusal ≡ 0 → (r .line ≡ 0) × (r .field ≡ 0)
   pub zeros : ¬ (r .refusal ≡ 0) → r ≡ refusedAs (r .refusal) 0 0

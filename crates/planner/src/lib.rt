@@ -1,5 +1,5 @@
 ghost use mathlib.Core.Path.{_≡_};
-ghost use Prim.Native.Nat.{_≤_};
+ghost use Prim.Native.Nat.{_≤_, _<_, _^_};
 ghost use lib.ListN.{length};
 ghost use Rattle.frame.specs.Sheet.{Sheet, Ranges};
 ghost use Rattle.frame.specs.Plan.{frameOutcome};
@@ -9,6 +9,7 @@ ghost use Rattle.sheet.specs.Reading.{numberOf, lineOf, fieldOf};
 ghost use Rattle.sheet.specs.Frame.{frameOf};
 ghost use Rattle.planner.specs.Answer.{found, answerTo, answerOf, refusedAs, Answers};
 ghost use Rattle.planner.specs.Inner.{Finds, axesOf};
+ghost use Rattle.planner.specs.Need.{wordsOf};
 ghost use Rattle.step.specs.Store.{Stored};
 ghost use Rattle.table.specs.Table.{sheetBy, Axes};
 ghost use Rattle.planner.specs.Demands.{Demands};
@@ -31,6 +32,12 @@ pub struct Reply {
     pub peak: u64,
 }
 
+// How many words a sheet needs, or a refusal of 1 to 6.
+pub struct Words {
+    pub refusal: u32,
+    pub words: usize,
+}
+
 // A refused reply: "Every figure of a refused reply not named is 0."
 fn refuse(refusal: u32, line: usize, field: usize) -> Reply
     ensures { λ q. ⌜ q ≡ refusedAs refusal line field ⌝ }
@@ -50,15 +57,8 @@ fn refuse(refusal: u32, line: usize, field: usize) -> Reply
 fn refuse_sheet(f: Refusal) -> Reply
     ensures { λ q. ⌜ q ≡ refusedAs (numberOf f) (lineOf f) (fieldOf f) ⌝ }
 {
-    match f {
-        Refusal::Nothing => refuse(0, 0, 0),
-        Refusal::TooLong => refuse(1, 0, 0),
-        Refusal::Line(line) => refuse(2, line, 0),
-        Refusal::Form(line, field) => refuse(3, line, field),
-        Refusal::Range(line, field) => refuse(4, line, field),
-        Refusal::Hot => refuse(5, 2, 8),
-        Refusal::Trailing(line) => refuse(6, line, 0),
-    }
+    let c = sheet::code_of(f);
+    refuse(c.number, c.line, c.field)
 }
 
 // The figures of the H line, and the cells of the table's two axes.
@@ -90,6 +90,24 @@ fn need_of(r: Reading, f: Frame) -> usize
     ensures { λ n. ⌜ n ≡ need (frameOf r) ⌝ }
 {
     f.jobs as usize * f.levels as usize * f.energy_cells * f.temperature_cells
+}
+
+// The words that a sheet needs, whatever is lent.
+pub fn count_words(s: &[u8]) -> Words
+    ensures { λ q. ⌜ q ≡ wordsOf (now (s .entry)) ⌝ }
+    ensures { λ q. ⌜ q .words < 2 ^ 63 ⌝ }
+{
+    let r = sheet::read(s);
+    let f = r.refusal;
+    let Refusal::Nothing = f else {
+        let c = sheet::code_of(f);
+        return Words {
+            refusal: c.number,
+            words: 0,
+        };
+    };
+    let words = need_of(r, frame_of(r));
+    Words { refusal: 0, words }
 }
 
 // Fills the table and, where there is a plan, writes its levels: whether there is one.

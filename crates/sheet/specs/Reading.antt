@@ -14,6 +14,7 @@ use Rattle.lines.specs.Lines.{after, Found}
 use Rattle.sheet.specs.Body.{bodyFrom}
 use Rattle.sheet.specs.declared.Reading.{Reading}
 use Rattle.sheet.specs.declared.Refusal.{Refusal}
+use Rattle.sheet.specs.declared.RefusalCode.{RefusalCode}
 use Rattle.sheet.specs.declared.Refusal.the-variants.{Nothing, TooLong, Line, Form as FormAt, Range as RangeAt, Hot, Trailing}
 
 -- The number that document 01 gives a refusal; 0 for none.
@@ -45,6 +46,20 @@ fieldOf (FormAt line field) = field
 fieldOf (RangeAt line field) = field
 fieldOf Hot = 8
 fieldOf (Trailing line) = 0
+
+-- What follows the reading of a sheet: where it is refused, what is made of its refusal, and else what comes next.
+abbrev pub accepted : {X : Type 0} → Refusal → (Refusal → X) → X → X
+accepted Nothing away go = go
+accepted TooLong away go = away TooLong
+accepted (Line line) away go = away (Line line)
+accepted (FormAt line field) away go = away (FormAt line field)
+accepted (RangeAt line field) away go = away (RangeAt line field)
+accepted Hot away go = away Hot
+accepted (Trailing line) away go = away (Trailing line)
+
+-- A refusal's number, line and field, side by side.
+abbrev pub codeAs : ℕ → ℕ → ℕ → RefusalCode
+codeAs number line field = record { number = number; line = line; field = field }
 
 -- A fault of a line as a refusal: 2 for its letter or its count of fields, 3 for a field's form, 4 for a field's range.
 abbrev pub refusalOf : Fault → ℕ → Refusal

@@ -6,7 +6,7 @@ ghost use Rattle.sheet.specs.Body.{changesFrom, jobsFrom, bodyFrom};
 ghost use Rattle.sheet.specs.Naming.{NameRead};
 ghost use Rattle.text.specs.Text.{part, count};
 ghost use Rattle.rows.specs.Row.{numbersIn};
-ghost use Rattle.sheet.specs.Reading.{refusedAs, refusalOf, headRow, figuresFrom, headFrom, sheetOf};
+ghost use Rattle.sheet.specs.Reading.{numberOf, lineOf, fieldOf, codeAs, refusedAs, refusalOf, headRow, figuresFrom, headFrom, sheetOf};
 use lines::Kind;
 use lines::Stop;
 use rows::Fault;
@@ -169,6 +169,38 @@ const HEAD_HI: [u32; 10] = [
     2_000_000_000,
     20_000,
 ];
+
+// A refusal in document 01's numbers: its own, and the line and the field that it returns.
+pub struct RefusalCode {
+    pub number: u32,
+    pub line: usize,
+    pub field: usize,
+}
+
+fn code(number: u32, line: usize, field: usize) -> RefusalCode
+    ensures { λ r. ⌜ r ≡ codeAs number line field ⌝ }
+{
+    RefusalCode {
+        number,
+        line,
+        field,
+    }
+}
+
+// The numbers of a refusal; all 0 for none.
+pub fn code_of(f: Refusal) -> RefusalCode
+    ensures { λ r. ⌜ r ≡ codeAs (numberOf f) (lineOf f) (fieldOf f) ⌝ }
+{
+    match f {
+        Refusal::Nothing => code(0, 0, 0),
+        Refusal::TooLong => code(1, 0, 0),
+        Refusal::Line(line) => code(2, line, 0),
+        Refusal::Form(line, field) => code(3, line, field),
+        Refusal::Range(line, field) => code(4, line, field),
+        Refusal::Hot => code(5, 2, 8),
+        Refusal::Trailing(line) => code(6, line, 0),
+    }
+}
 
 // A refused sheet: every figure is 0.
 fn refused(r: Refusal) -> Reading

@@ -11,51 +11,39 @@ Inv-loop part digits₀ i₀ t4 digits i = (i ≤ 64) × (length digits ≡ 64)
 abbrev μ-loop : tie.MeasureT-loop
 μ-loop part digits₀ i₀ t4 digits i = 64 - i
 
--- src/main.rt:91:5
 loop-holds : tie.Need-loop-holds Inv-loop μ-loop
 loop-holds c = search needs
 
--- src/main.rt:92:42
 element-copy-out-wrapping-add-u8 : tie.Need-element-copy-out-wrapping-add-u8 Inv-loop μ-loop
 element-copy-out-wrapping-add-u8 c = search needs
 
--- src/main.rt:92:21
 wrapping-add-u8-requires : tie.Need-wrapping-add-u8-requires Inv-loop μ-loop
 wrapping-add-u8-requires c κs = search needs
 
--- src/main.rt:92:9
 array-write-digits : tie.Need-array-write-digits Inv-loop μ-loop
 array-write-digits c = search needs
 
--- src/main.rt:93:9
 add-i : tie.Need-add-i Inv-loop μ-loop
 add-i c = search needs
 
--- src/main.rt:91:5
 loop-less : tie.Need-loop-less Inv-loop μ-loop
 loop-less c = search needs
 
--- src/main.rt:91:5
 loop-again : tie.Need-loop-again Inv-loop μ-loop
 loop-again c = search needs
 
--- src/main.rt:95:34
 slice-aggregate-write-all : tie.Need-slice-aggregate-write-all Inv-loop μ-loop
 slice-aggregate-write-all c = search needs
 
--- src/main.rt:95:5
 write-all-requires : tie.Need-write-all-requires Inv-loop μ-loop
 write-all-requires c κs = search needs
 
--- src/main.rt:96:34
 slice-aggregate-write-all-2 : tie.Need-slice-aggregate-write-all-2 Inv-loop μ-loop
 slice-aggregate-write-all-2 c = search needs
 
--- src/main.rt:96:5
 write-all-requires-2 : tie.Need-write-all-requires-2 Inv-loop μ-loop
 write-all-requires-2 c κs = search needs
 
--- src/main.rt:88:1
 returns : tie.Need-returns Inv-loop μ-loop
 returns c = search needs
 

@@ -4,43 +4,33 @@ use borrow.Author.Needs.{needs}
 use Rattle.cases.proofs.print_plan.Statement.{statement}
 use Rattle.cases.proofs.print_plan.Tie as tie
 
--- src/main.rt:123:34
 array-borrow-prefix-table : tie.Need-array-borrow-prefix-table
 array-borrow-prefix-table c = search needs
 
--- src/main.rt:123:34
 slice-aggregate-plan : tie.Need-slice-aggregate-plan
 slice-aggregate-plan c = rw length-take (omega arith)
 
--- src/main.rt:123:55
 array-borrow-prefix-part : tie.Need-array-borrow-prefix-part
 array-borrow-prefix-part c = search needs
 
--- src/main.rt:123:55
 slice-aggregate-plan-2 : tie.Need-slice-aggregate-plan-2
 slice-aggregate-plan-2 c = rw length-take (omega arith)
 
--- src/main.rt:123:17
 plan-requires : tie.Need-plan-requires
 plan-requires c κs = search needs
 
--- src/main.rt:123:5
 print-reply-requires : tie.Need-print-reply-requires
 print-reply-requires c κs = search needs
 
--- src/main.rt:124:5
 print-part-requires : tie.Need-print-part-requires
 print-part-requires c κs = search needs
 
--- src/main.rt:125:18
 weigh-requires : tie.Need-weigh-requires
 weigh-requires c κs = search needs
 
--- src/main.rt:125:5
 print-number-requires : tie.Need-print-number-requires
 print-number-requires c κs = search needs
 
--- src/main.rt:118:1
 returns : tie.Need-returns
 returns c = search needs
 

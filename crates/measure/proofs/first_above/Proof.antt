@@ -7,8 +7,6 @@ use Rattle.measure.proofs.Levels.{found-above, found-below, found-none}
 use borrow.Author.Needs.{needs}
 use Rattle.measure.proofs.first_above.Statement.{statement}
 use Rattle.measure.proofs.first_above.Tie as tie
-use Rattle.measure.proofs.first_above.Reads as reads
-use Rattle.measure.proofs.first_above.Lts as lts
 
 abbrev Inv-loop : tie.InvT-loop
 Inv-loop levels l i₀ i = (i ≤ length levels) × (firstAbove l levels ≡ i + firstAbove l (drop i levels))
@@ -16,35 +14,27 @@ Inv-loop levels l i₀ i = (i ≤ length levels) × (firstAbove l levels ≡ i +
 abbrev μ-loop : tie.MeasureT-loop
 μ-loop levels l i₀ i = length levels - i
 
--- src/lib.rt:71:5
 loop-holds : tie.Need-loop-holds Inv-loop μ-loop
 loop-holds c = (search needs, omega arith)
 
--- src/lib.rt:72:17
 shared-slice-read-if1 : tie.Need-shared-slice-read-if1 Inv-loop μ-loop
 shared-slice-read-if1 c = search needs
 
--- src/lib.rt:72:17
 cast-if1 : tie.Need-cast-if1 Inv-loop μ-loop
 cast-if1 c = search (needs, c .shared-slice-known .given (c .before .before .loop .i))
 
--- src/lib.rt:73:13
 returns : tie.Need-returns Inv-loop μ-loop
 returns c = sym (c .before .before .before .loop .inv .1 ∙ found-above _ _ _ (search needs) (search needs))
 
--- src/lib.rt:75:9
 add-i : tie.Need-add-i Inv-loop μ-loop
 add-i c = search needs
 
--- src/lib.rt:71:5
 loop-less : tie.Need-loop-less Inv-loop μ-loop
 loop-less c = search needs
 
--- src/lib.rt:71:5
 loop-again : tie.Need-loop-again Inv-loop μ-loop
 loop-again c = (search needs, c .before .before .before .loop .inv .1 ∙ found-below _ _ _ (search needs) (search needs))
 
--- src/lib.rt:67:1
 returns-2 : tie.Need-returns-2 Inv-loop μ-loop
 returns-2 c = sym (c .before .loop .inv .1 ∙ found-none _ _ _ (search needs))
 

@@ -1,59 +1,45 @@
 use mathlib.Core.Path.{_∙_}
-use borrow.Author.Needs.{needs}
 use Rattle.measure.proofs.Replies.{measure-refused, measure-length, measure-level, measure-given, fits-sheet}
+use borrow.Author.Needs.{needs}
 use Rattle.measure.proofs.measure.Statement.{statement}
 use Rattle.measure.proofs.measure.Tie as tie
-use Rattle.measure.proofs.measure.Reads as reads
-use Rattle.measure.proofs.measure.Lts as lts
-use Rattle.measure.proofs.first_above.Reads as first-above-reads
-use Rattle.measure.proofs.margins_of.Reads as margins-of-reads
-use Rattle.measure.proofs.refuse.Reads as refuse-reads
-use Rattle.sheet.proofs.read.Reads as read-reads
 
--- src/lib.rt:133:9
 read-requires : tie.Need-read-requires
 read-requires c κs = search needs
 
 enum-told : tie.Need-enum-told
 enum-told c = search needs
 
--- src/lib.rt:136:9
+code-of-requires : tie.Need-code-of-requires
+code-of-requires c κs = search needs
+
 refuse-requires : tie.Need-refuse-requires
 refuse-requires c κs = search needs
 
--- src/lib.rt:136:9
 returns : tie.Need-returns
-returns c = c .refuse .ensures ∙ measure-refused _ _ _ (c .before .before .read .ensures) (c .before .match .keys2)
+returns c = c .refuse .ensures ∙ measure-refused _ _ _ (c .before .before .before .read .ensures) _ (c .before .before .match .keys2) (c .before .code-of .ensures)
 
--- src/lib.rt:138:24
 cast-if1 : tie.Need-cast-if1
 cast-if1 c = search needs
 
--- src/lib.rt:139:9
 refuse-requires-2 : tie.Need-refuse-requires-2
 refuse-requires-2 c κs = search needs
 
--- src/lib.rt:139:9
 returns-2 : tie.Need-returns-2
 returns-2 c = c .refuse2 .ensures ∙ measure-length _ _ _ (c .before .before .before .before .before .read .ensures) (c .before .before .before .enum-told .given .1) (search needs)
 
--- src/lib.rt:141:9
 first-above-requires : tie.Need-first-above-requires
 first-above-requires c κs = search needs
 
--- src/lib.rt:143:9
 refuse-requires-3 : tie.Need-refuse-requires-3
 refuse-requires-3 c κs = search needs
 
--- src/lib.rt:143:9
 returns-3 : tie.Need-returns-3
 returns-3 c = c .refuse3 .ensures ∙ measure-level _ _ _ (c .before .before .before .before .before .before .before .read .ensures) (c .before .before .before .before .before .enum-told .given .1) (search needs) _ (c .before .before .first-above .ensures) (search needs)
 
--- src/lib.rt:145:5
 margins-of-requires : tie.Need-margins-of-requires
 margins-of-requires c κs = fits-sheet _ _ _ (c .before .before .before .before .before .before .read .ensures) (c .before .before .before .before .enum-told .given .1) (search needs) _ (c .before .first-above .ensures) (search needs)
 
--- src/lib.rt:130:1
 returns-4 : tie.Need-returns-4
 returns-4 c = c .margins-of .ensures ∙ measure-given _ _ _ (c .before .before .before .before .before .before .before .read .ensures) (c .before .before .before .before .before .enum-told .given .1) (search needs) _ (c .before .before .first-above .ensures) (search needs)
 
@@ -63,6 +49,7 @@ measure-spec =
     (tie.spec
     read-requires
     enum-told
+    code-of-requires
     refuse-requires
     returns
     cast-if1

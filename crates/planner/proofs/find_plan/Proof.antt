@@ -15,26 +15,16 @@ use Rattle.planner.proofs.Replies.{start-run, start-looks, start-rest, 
 use borrow.Author.Needs.{needs}
 use Rattle.planner.proofs.find_plan.Statement.{statement}
 use Rattle.planner.proofs.find_plan.Tie as tie
-use Rattle.planner.proofs.find_plan.Reads as reads
-use Rattle.planner.proofs.find_plan.Lts as lts
-use Rattle.run.proofs.Run.start.Reads as start-reads
-use Rattle.fill.proofs.fill.Reads as fill-reads
-use Rattle.table.proofs.rest_of.Reads as rest-of-reads
-use Rattle.walk.proofs.walk.Reads as walk-reads
 
--- src/lib.rt:107:5
 fill-requires : tie.Need-fill-requires
 fill-requires c κs = search needs
 
--- src/lib.rt:108:43
 cast-start : tie.Need-cast-start
 cast-start c = search needs
 
--- src/lib.rt:108:9
 start-requires : tie.Need-start-requires
 start-requires c κs = search needs
 
--- src/lib.rt:109:9
 cast-if1 : tie.Need-cast-if1
 cast-if1 c = search needs
 
@@ -45,14 +35,12 @@ sheet c = sheetBy (c .args .f) (now (c .args .figures))
 at-start : (c : tie.After-start) → stateOf (c .start .result) ≡ start (sheet (c .before .before .before .before .before .before .before .before))
 at-start c = start-run (c .before .before .before .before .before .before .before .before .args .f) (now (c .before .before .before .before .before .before .before .before .args .figures)) _ (c .start .ensures)
 
--- src/lib.rt:109:30
 rest-of-requires : tie.Need-rest-of-requires
 rest-of-requires c κs = λ d.
     let a = c .before .before .before .before .before .before .before .before .before .before .pre in
     let q = start-looks (a .0) _ (at-start (c .before .before)) d in
     (q .0, omega (arith, q .1, a .0 .allowed), omega (arith, q .1, a .2, c .before .before .before .before .before .before .fill .kept .1 .1 .1 .0))
 
--- src/lib.rt:110:9
 same-length : tie.Need-same-length
 same-length c = search needs
 
@@ -62,12 +50,10 @@ looked c =
     let a = c .before .before .before .before .before .before .before .before .before .before .before in
     start-rest (a .pre .0) _ (at-start (c .before .before .before)) (now (a .args .table)) _ _ (a .pre .2) (c .before .before .before .before .before .before .before .fill .ensures) (c .rest-of .ensures)
 
--- src/lib.rt:110:9
 returns : tie.Need-returns
 unfolding frameOf
 returns c = finds-none _ _ (looked (c .before)) (c .if1 .taken) (c .before .before .before .before .before .before .before .before .fill .ensures) refl
 
--- src/lib.rt:112:5
 walk-requires : tie.Need-walk-requires
 unfolding frameOf
 walk-requires c κs =
@@ -85,15 +71,12 @@ walk-requires c κs =
       ),
     )
 
--- src/lib.rt:95:1
 same-length-2 : tie.Need-same-length-2
 same-length-2 c = search needs
 
--- src/lib.rt:95:1
 same-length-3 : tie.Need-same-length-3
 same-length-3 c = search needs
 
--- src/lib.rt:95:1
 returns-2 : tie.Need-returns-2
 unfolding frameOf
 returns-2 c =

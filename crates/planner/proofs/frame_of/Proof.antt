@@ -4,45 +4,33 @@ use Rattle.sheet.specs.Frame.{frameOf}
 use borrow.Author.Needs.{needs}
 use Rattle.planner.proofs.frame_of.Statement.{statement}
 use Rattle.planner.proofs.frame_of.Tie as tie
-use Rattle.planner.proofs.frame_of.Reads as reads
-use Rattle.planner.proofs.frame_of.Lts as lts
-use Rattle.table.proofs.ceil_div.Reads as ceil-div-reads
 
--- src/lib.rt:67:24
 ceil-div-requires : tie.Need-ceil-div-requires
 unfolding frameOf
 ceil-div-requires c κs = omega (arith, c .pre .energyBudget, c .pre .energyStep)
 
--- src/lib.rt:67:24
 cast-energy-cells : tie.Need-cast-energy-cells
 cast-energy-cells c = search needs
 
--- src/lib.rt:67:24
 add-energy-cells : tie.Need-add-energy-cells
 add-energy-cells c = search needs
 
--- src/lib.rt:68:29
 ceil-div-requires-2 : tie.Need-ceil-div-requires-2
 unfolding frameOf
 ceil-div-requires-2 c κs = omega (arith, c .before .pre .temperatureLimit, c .before .pre .temperatureStep)
 
--- src/lib.rt:68:29
 cast-temperature-cells : tie.Need-cast-temperature-cells
 cast-temperature-cells c = search needs
 
--- src/lib.rt:68:29
 add-temperature-cells : tie.Need-add-temperature-cells
 add-temperature-cells c = search needs
 
--- src/lib.rt:74:24
 cast-t6 : tie.Need-cast-t6
 cast-t6 c = search needs
 
--- src/lib.rt:75:28
 cast-t7 : tie.Need-cast-t7
 cast-t7 c = search needs
 
--- src/lib.rt:63:1
 returns : tie.Need-returns
 unfolding frameOf energyCells temperatureCells
 returns c = cc (c .before .before .before .ceil-div .ensures, c .before .before .ceil-div2 .ensures)

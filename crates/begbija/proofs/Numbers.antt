@@ -1,0 +1,137 @@
+-- The numbers of the calls, and the demands in words behind that of plan text.
+-- Assumes nothing.
+use mathlib.Core.Logic.{_⊎_, inl, inr, ⊎-elim}
+use mathlib.Core.Path.{_≡_, refl, sym, ap, _∙_}
+use mathlib.Core.Bool.{true≢false}
+use mathlib.Core.List.{List, [], _∷_, _++_}
+use Prim.Native.Nat.{ℕ, zero, suc, _≤_, _<_, _^_}
+use native.Mathlib.Decide.{decLt}
+use native.Mathlib.Omega.{arith}
+use lib.IntN.{ℤ, pos, natAbs, _-ℤ_}
+use lib.Signed.{nonNeg}
+use lib.ListN.{length, take, drop, replicate}
+use lib.Seq.{take-at}
+use borrow.Author.Tests.{lt-ltb, le-ltb, eq-eqb, ne-eqb}
+use mir.Syntax.{w64}
+use mir.Val.{SFits, toZ, ofZ}
+use mir.Facts.{toZ-ofZ, toZ-pos}
+use Rattle.margin.proofs.Signed.{minus-is}
+use Rattle.frame.specs.Sheet.{Sheet}
+use Rattle.frame.specs.Demands.{Outcome, planned, noPlan}
+use Rattle.measure.specs.declared.Measured.{Measured}
+use Rattle.planner.specs.Answer.{Answer, refused, found, answerOf}
+use Rattle.planner.specs.Answer.{partOf as levelsOf}
+use Rattle.planner.specs.Demands.{planIn, Demands}
+use Rattle.planner.proofs.Ways.{replyTo, answer-demands}
+use Rattle.plan_text.specs.Text.{planText}
+use Rattle.report.specs.Report.{answerIn, reportOf, partOf}
+use Rattle.report.proofs.Told.{Told, answer-told, told-best}
+use Rattle.begbija.specs.Begbija.{minus, countOrRefusal, textNumber, figuresOf, TextDemands}
+
+-- ---- the code's numbers
+
+pub number-count : (refusal count : ℕ) → refusal ≡ 0 → count < 2 ^ 63 → toZ w64 count ≡ countOrRefusal refusal count
+number-count refusal count e h = rw (eq-eqb refusal 0 e) (toZ-pos w64 h)
+
+pub number-refusal : (refusal count : ℕ) → ¬ (refusal ≡ 0) → refusal < 2 ^ 32 → toZ w64 (ofZ w64 (pos 0 -ℤ toZ w64 refusal)) ≡ countOrRefusal refusal count
+number-refusal refusal count n h = rw (ne-eqb refusal 0 n) (minus-is refusal (omega arith))
+
+-- Where nothing is counted, 0 or minus the refusal.
+pub number-only : (refusal : ℕ) → countOrRefusal refusal 0 ≡ minus refusal
+number-only zero = refl
+number-only (suc k) = rw (ne-eqb (suc k) 0 (λ e. omega (arith, e))) refl
+
+-- A signed number that was handed on says the same.
+pub handed-on : {z q : ℤ} → SFits w64 z → z ≡ q → toZ w64 (ofZ w64 z) ≡ q
+handed-on ok e = toZ-ofZ ok ∙ e
+
+pub figures-are : (q : Measured) {refusal line field time energy temperature : ℤ} → refusal ≡ pos (q .refusal) → line ≡ pos (q .line) → field ≡ pos (q .field) →
+    time ≡ q .time → energy ≡ q .energy → temperature ≡ q .temperature → (refusal ∷ line ∷ field ∷ time ∷ energy ∷ temperature ∷ []) ≡ figuresOf q
+figures-are q r l f t e k = cc (r, l, f, t, e, k)
+
+-- ---- a number says one thing
+
+-- A refusal is no count of bytes.
+refusal-not : (k n : ℕ) → 1 ≤ k → ¬ (minus k ≡ pos n)
+refusal-not zero n h e = omega (arith, h)
+refusal-not (suc k) n h e = true≢false (sym (ap nonNeg e))
+
+size-minus : (k : ℕ) → natAbs (minus k) ≡ k
+size-minus zero = refl
+size-minus (suc k) = refl
+
+same-refusal : (k l : ℕ) → minus k ≡ minus l → k ≡ l
+same-refusal k l e = sym (size-minus k) ∙ ap natAbs e ∙ size-minus l
+
+-- ---- the call with the table inside
+
+-- The levels of a plan, as a part of 64 bytes holds them.
+plan-levels : (t : List ℕ) (s : Sheet) (js : List ℕ) → Told t (found s (planned js)) → planIn s (levelsOf (found s (planned js)) (replicate 64 0)) ≡ js
+plan-levels t s js n = take-at js (drop s.jobs (replicate 64 0)) s.jobs (told-best t s (planned js) n .keeps .levels .size)
+
+module _ (t text text' : List ℕ) (q : ℤ) where
+  -- The planner's own refusal.
+  on-refused : (a : Answer) → Demands t 16384 64 (levelsOf a (replicate 64 0)) (replyTo a) → (k : ℕ) → 1 ≤ k → ¬ (k ≡ 9) → (replyTo a) .refusal ≡ k →
+      (4096 ≤ length text) ⊎ (k ≤ 8) → q ≡ minus k → TextDemands t (length text) text' q
+  on-refused a d k h o r w e =
+      record {
+        reply = replyTo a;
+        levels = levelsOf a (replicate 64 0);
+        demands = d;
+        plan = λ n z. absurd (refusal-not k n h (sym e ∙ z));
+        refused = λ i l u z. r ∙ same-refusal k i (sym e ∙ z);
+        narrow = ((λ z. absurd (o (same-refusal k 9 (sym e ∙ z)))), (λ z. absurd (⊎-elim (λ v. omega (arith, z .0, v)) (λ v. ⊎-elim (λ y. omega (arith, r, y, v, h)) (λ y. omega (arith, r, y, v)) (z .1)) w)));
+      }
+
+  -- A part that is too short, in the place of a plan or of "no plan".
+  on-narrow : (s : Sheet) (o : Outcome) → Demands t 16384 64 (levelsOf (found s o) (replicate 64 0)) (replyTo (found s o)) → length text < 4096 →
+      ((replyTo (found s o)) .refusal ≡ 0) ⊎ ((replyTo (found s o)) .refusal ≡ 10) → q ≡ minus 9 → TextDemands t (length text) text' q
+  on-narrow s o d h u e =
+      record {
+        reply = replyTo (found s o);
+        levels = levelsOf (found s o) (replicate 64 0);
+        demands = d;
+        plan = λ n z. absurd (refusal-not 9 n (omega arith) (sym e ∙ z));
+        refused = λ k l w z. absurd (w (sym (same-refusal 9 k (sym e ∙ z))));
+        narrow = ((λ z. (h, u)), (λ z. e));
+      }
+
+  zero-or-ten : (s : Sheet) (o : Outcome) → ((replyTo (found s o)) .refusal ≡ 0) ⊎ ((replyTo (found s o)) .refusal ≡ 10)
+  zero-or-ten s (planned js) = inl refl
+  zero-or-ten s noPlan = inr refl
+
+  on-found : (s : Sheet) (o : Outcome) → Told t (found s o) → Demands t 16384 64 (levelsOf (found s o) (replicate 64 0)) (replyTo (found s o)) → 4096 ≤ length text →
+      q ≡ textNumber (reportOf t (length text) (found s o)) → text' ≡ partOf t (found s o) text → TextDemands t (length text) text' q
+  on-found s (planned js) n d h e w =
+      let u : text' ≡ planText t s js ++ drop (length (planText t s js)) text = rw (le-ltb (length text) 4096 h) at w in
+      let z : q ≡ pos (length (planText t s js)) = rw (le-ltb (length text) 4096 h) at e in
+      record {
+        reply = replyTo (found s (planned js));
+        levels = levelsOf (found s (planned js)) (replicate 64 0);
+        demands = d;
+        plan = λ k y.
+            let i : length (planText t s js) ≡ k = ap natAbs (sym z ∙ y) in
+            (refl, rw (← n .1, plan-levels t s js n) (ap (take k) u ∙ take-at (planText t s js) (drop (length (planText t s js)) text) k i));
+        refused = λ k l o y. absurd (refusal-not k (length (planText t s js)) l (sym y ∙ z));
+        narrow = ((λ y. absurd (refusal-not 9 (length (planText t s js)) (omega arith) (sym y ∙ z))), (λ y. absurd (omega (arith, y .0, h))));
+      }
+  on-found s noPlan n d h e w =
+      let z : q ≡ minus 10 = rw (le-ltb (length text) 4096 h) at e in
+      on-refused (found s noPlan) d 10 (omega arith) (λ y. omega (arith, y)) refl (inl h) z
+
+  by-answer : (a : Answer) → Told t a → Demands t 16384 64 (levelsOf a (replicate 64 0)) (replyTo a) →
+      q ≡ textNumber (reportOf t (length text) a) → text' ≡ partOf t a text → TextDemands t (length text) text' q
+  by-answer (refused number line field) n d e w =
+      let z : q ≡ minus number = rw (ne-eqb number 0 (λ y. omega (arith, n, y))) at e in
+      on-refused (refused number line field) d number (n .0) (λ y. omega (arith, n, y)) refl (inr (omega (arith, n))) z
+  by-answer (found s o) n d e w =
+      elim (decLt (length text) 4096) [
+        | yes h ↦
+            let z : q ≡ minus 9 = rw (lt-ltb (length text) 4096 h) at e in
+            on-narrow s o d h (zero-or-ten s o) z
+        | no h ↦ on-found s o n d (omega arith) e w
+      ]
+
+  pub text-demands : q ≡ textNumber (reportOf t (length text) (answerIn t)) → text' ≡ partOf t (answerIn t) text → TextDemands t (length text) text' q
+  unfolding answerIn
+  text-demands e w = by-answer (answerOf t 16384 64) (answer-told t 16384) (answer-demands t (replicate 16384 0) (replicate 64 0)) e w

@@ -1,0 +1,30 @@
+use native.Mathlib.Omega.{arith}
+use mathlib.Core.Path.{ap, _∙_}
+use Rattle.measure.specs.declared.Measured.{Measured}
+use Rattle.measure.proofs.Places.{Near, measured-near}
+use Rattle.begbija.specs.Begbija.{minus, figuresOf}
+use Rattle.begbija.proofs.Numbers.{number-only, handed-on}
+use borrow.Author.Needs.{needs}
+use Rattle.begbija.proofs.begbija_measure.Statement.{statement}
+use Rattle.begbija.proofs.begbija_measure.Tie as tie
+
+measure-requires : tie.Need-measure-requires
+measure-requires c κs = search needs
+
+put-margins-requires : tie.Need-put-margins-requires
+put-margins-requires c κs =
+    let n : Near (c .before .measure .result) = rw (c .before .measure .ensures) (measured-near _ _) in
+    (omega (arith, n), omega (arith, n))
+
+count-or-refusal-requires : tie.Need-count-or-refusal-requires
+count-or-refusal-requires c κs = search needs
+
+returns : tie.Need-returns
+returns c =
+    let m = c .before .before .before .measure .ensures in
+    let r = c .count-or-refusal in
+    (handed-on (record { sfits = r .ok }) (r .ensures ∙ number-only (c .before .before .before .measure .result .refusal) ∙ ap (λ (q : Measured). minus (q .refusal)) m), c .before .put-margins .ensures ∙ ap figuresOf m)
+
+pub begbija-measure-spec : {M : Type 1} → statement M
+begbija-measure-spec =
+    tie.close (tie.spec measure-requires put-margins-requires count-or-refusal-requires returns)

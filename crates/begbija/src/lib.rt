@@ -1,0 +1,101 @@
+// The calls that the logger's firmware links.
+ghost use mathlib.Core.Path.{_≡_};
+ghost use Prim.Native.Nat.{_<_, _^_};
+ghost use lib.ListN.{length};
+ghost use Rattle.measure.specs.Measure.{measureOf};
+ghost use Rattle.planner.specs.Answer.{answerOf, Answers};
+ghost use Rattle.planner.specs.Demands.{Demands};
+ghost use Rattle.planner.specs.Need.{wordsOf};
+ghost use Rattle.report.specs.Report.{answerIn, reportOf, partOf};
+ghost use Rattle.begbija.specs.Begbija.{minus, countOrRefusal, textNumber, needNumber, replyIn, figuresOf, TextDemands};
+use measure::Measured;
+use planner::Reply;
+
+// The signed number of every call.
+fn count_or_refusal(refusal: u32, count: usize) -> i64
+    requires { ⌜ count < 2 ^ 63 ⌝ }
+    ensures { λ q. ⌜ q ≡ countOrRefusal refusal count ⌝ }
+{
+    if refusal == 0 {
+        return count as i64;
+    }
+    -(refusal as i64)
+}
+
+// Writes the planner's reply for C.
+fn put_reply(r: Reply, reply: &mut [u64; 7])
+    ensures { λ q. ⌜ replyIn (now (reply .exit)) ≡ r ⌝ }
+{
+    *reply = [
+        r.refusal as u64,
+        r.line as u64,
+        r.field as u64,
+        r.time,
+        r.energy,
+        r.temperature,
+        r.peak,
+    ];
+}
+
+// The bytes of plan text written, or minus the refusal.
+#[no_mangle]
+pub extern "C" fn begbija_plan_text(sheet: &[u8], text: &mut [u8]) -> i64
+    ensures { λ q. ⌜ q ≡ textNumber (reportOf (now (sheet .entry)) (length (now (text .entry))) (answerIn (now (sheet .entry)))) ⌝ }
+    ensures { λ q. ⌜ now (text .exit) ≡ partOf (now (sheet .entry)) (answerIn (now (sheet .entry))) (now (text .entry)) ⌝ }
+    ensures { λ q. ⌜ TextDemands (now (sheet .entry)) (length (now (text .entry))) (now (text .exit)) q ⌝ }
+{
+    let r = report::write_plan(sheet, text);
+    count_or_refusal(r.refusal, r.length)
+}
+
+// 0 for a plan, or minus the refusal; the figures of either in `reply`.
+#[no_mangle]
+pub extern "C" fn begbija_plan(
+    sheet: &[u8],
+    table: &mut [u32],
+    levels: &mut [u8],
+    reply: &mut [u64; 7],
+) -> i64
+    ensures { λ q. ⌜ q ≡ minus (replyIn (now (reply .exit)) .refusal) ⌝ }
+    ensures { λ q. ⌜ Answers (answerOf (now (sheet .entry)) (length (now (table .entry))) (length (now (levels .entry)))) (now (table .entry)) (now (table .exit)) (now (levels .entry)) (now (levels .exit)) (replyIn (now (reply .exit))) ⌝ }
+    ensures { λ q. ⌜ Demands (now (sheet .entry)) (length (now (table .entry))) (length (now (levels .entry))) (now (levels .exit)) (replyIn (now (reply .exit))) ⌝ }
+{
+    let r = planner::plan(sheet, table, levels);
+    put_reply(r, reply);
+    count_or_refusal(r.refusal, 0)
+}
+
+// Writes what the measuring call says for C.
+fn put_margins(m: Measured, margins: &mut [i64; 6])
+    requires { ⌜ (m .line < 2 ^ 63) × (m .field < 2 ^ 63) ⌝ }
+    ensures { λ q. ⌜ now (margins .exit) ≡ figuresOf m ⌝ }
+{
+    *margins = [
+        m.refusal as i64,
+        m.line as i64,
+        m.field as i64,
+        m.time,
+        m.energy,
+        m.temperature,
+    ];
+}
+
+// 0 for a list that was measured, or minus the refusal; the figures of either in `margins`.
+#[no_mangle]
+pub extern "C" fn begbija_measure(sheet: &[u8], levels: &[u8], margins: &mut [i64; 6]) -> i64
+    ensures { λ q. ⌜ q ≡ minus (measureOf (now (sheet .entry)) (now (levels .entry)) .refusal) ⌝ }
+    ensures { λ q. ⌜ now (margins .exit) ≡ figuresOf (measureOf (now (sheet .entry)) (now (levels .entry))) ⌝ }
+{
+    let m = measure::measure(sheet, levels);
+    put_margins(m, margins);
+    count_or_refusal(m.refusal, 0)
+}
+
+// The words that a sheet needs, or minus its refusal of 1 to 6.
+#[no_mangle]
+pub extern "C" fn begbija_need(sheet: &[u8]) -> i64
+    ensures { λ q. ⌜ q ≡ needNumber (wordsOf (now (sheet .entry))) ⌝ }
+{
+    let n = planner::count_words(sheet);
+    count_or_refusal(n.refusal, n.words)
+}
