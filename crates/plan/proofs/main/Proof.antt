@@ -1,68 +1,62 @@
-use native.Mathlib.Omega.{arith}
-use mathlib.Core.Path.{sym}
-use lib.Seq.{length-take-le}
 use Prim.Native.Nat.{_≤_}
+use mathlib.Core.Path.{sym}
+use native.Mathlib.Omega.{arith}
 use lib.ListN.{length}
-use Rattle.writer.proofs.Written.{wrote-length}
+use lib.Seq.{length-take-le}
+use Rattle.plan.proofs.Came.{came}
 use borrow.Author.Needs.{needs}
 use Rattle.plan.proofs.main.Statement.{statement}
 use Rattle.plan.proofs.main.Tie as tie
-use Rattle.plan.proofs.main.Reads as reads
-use Rattle.plan.proofs.main.Lts as lts
-use Rattle.io.proofs.read_full.Reads as read-full-reads
-use Rattle.io.proofs.write_all.Reads as write-all-reads
-use Rattle.printout.proofs.put_printout.Reads as put-printout-reads
 
--- src/main.rt:8:41
-slice-aggregate-read-full : tie.Need-slice-aggregate-read-full
-slice-aggregate-read-full c = search needs
+slice-aggregate-read-sheet : tie.Need-slice-aggregate-read-sheet
+slice-aggregate-read-sheet c = search needs
 
--- src/main.rt:8:9
-read-full-requires : tie.Need-read-full-requires
-read-full-requires c κs = search needs
+read-sheet-requires : tie.Need-read-sheet-requires
+read-sheet-requires c κs = search needs
 
--- src/main.rt:10:39
+enum-known-input : tie.Need-enum-known-input
+enum-known-input c = search needs
+
+-- The sheet stands within the buffer.
+inside : (c : tie.After-input) → c .input .given .0 .0 ≤ length (c .before .before .before .read-sheet .last .0)
+inside c = omega (arith, came 0 _ (c .input .given .1) (c .before .before .before .read-sheet .ensures))
+
 array-share-prefix-sheet : tie.Need-array-share-prefix-sheet
-array-share-prefix-sheet c = search needs
+array-share-prefix-sheet c = inside (c .before)
 
--- src/main.rt:10:39
-slice-aggregate-put-printout : tie.Need-slice-aggregate-put-printout
-slice-aggregate-put-printout c = search needs
+slice-aggregate-print-plan : tie.Need-slice-aggregate-print-plan
+slice-aggregate-print-plan c = sym (length-take-le _ _ (inside (c .before .before)))
 
--- src/main.rt:10:9
-put-printout-requires : tie.Need-put-printout-requires
-put-printout-requires c κs = search needs
+print-plan-requires : tie.Need-print-plan-requires
+print-plan-requires c κs = search needs
 
--- The printout stands within the text.
-inside : (c : tie.After-put-printout) → c .put-printout .result ≤ length (c .put-printout .last .1 .0)
-inside c = omega (arith, wrote-length (c .put-printout .ensures .0), c .put-printout .ensures .1)
+enum-told : tie.Need-enum-told
+enum-told c = search needs
 
--- src/main.rt:11:34
-array-share-prefix-text : tie.Need-array-share-prefix-text
-array-share-prefix-text c = inside c
-
--- src/main.rt:11:34
 slice-aggregate-write-all : tie.Need-slice-aggregate-write-all
-slice-aggregate-write-all c = sym (length-take-le _ _ (inside (c .before)))
+slice-aggregate-write-all c = search needs
 
--- src/main.rt:11:5
 write-all-requires : tie.Need-write-all-requires
 write-all-requires c κs = search needs
 
--- src/main.rt:6:1
 returns : tie.Need-returns
 returns c = search needs
+
+returns-2 : tie.Need-returns-2
+returns-2 c = search needs
 
 pub main-spec : {M : Type 1} → statement M
 main-spec =
     tie.close
     (tie.spec
-    slice-aggregate-read-full
-    read-full-requires
+    slice-aggregate-read-sheet
+    read-sheet-requires
+    enum-known-input
     array-share-prefix-sheet
-    slice-aggregate-put-printout
-    put-printout-requires
-    array-share-prefix-text
+    slice-aggregate-print-plan
+    print-plan-requires
+    enum-told
     slice-aggregate-write-all
     write-all-requires
-    returns)
+    returns
+    returns-2)
