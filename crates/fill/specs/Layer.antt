@@ -77,7 +77,7 @@ pub record Kept (lo hi : ℕ) (old new : List ℕ) : Type 0 where
   pub long : length new ≡ length old
   pub outside : (q : ℕ) → (q < lo) ⊎ (hi ≤ q) → getD new q 0 ≡ getD old q 0
 
--- The first n of the l × l moves of job i, by level left and then level entered.
+-- The first n of the l × l moves of job i, by level left and then level entered. What stands behind them is open.
 pub record Moves (s : Sheet) (i n : ℕ) (shifts reaches times : List ℕ) : Type 0 where
   pub shift : (u : ℕ) → u < n → getD shifts u 0 ≡ shiftOf s i (u / s.levels) (u % s.levels)
   pub reach : (u : ℕ) → u < n → getD reaches u 0 ≡ reachOf s i (u / s.levels) (u % s.levels)

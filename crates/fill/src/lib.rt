@@ -9,6 +9,7 @@ ghost use Rattle.frame.specs.Table.{temperatureCells, need, filled};
 ghost use Rattle.step.specs.Store.{Stored};
 ghost use Rattle.table.specs.Table.{sheetBy, Axes, Holds};
 ghost use Rattle.runs.specs.Runs.{Runs};
+ghost use Rattle.relax.specs.Levels.{Scratch};
 ghost use Rattle.fill.specs.Layer.{base, moved, shiftOf, reachOf, nextCell, Kept, Moves, Ahead, Follows, FilledFrom};
 use run::Run;
 use table::Frame;
@@ -231,6 +232,10 @@ fn fill_job(
     requires { λ s. ⌜ (64 ≤ length (now shifts)) × (64 ≤ length (now reaches)) × (64 ≤ length (now times)) × (3072 ≤ length (now part)) ⌝ }
     requires { λ s. ⌜ (i < s .jobs) × (FilledFrom s (base s (suc i) 0) (now table) (now table)) ⌝ }
     ensures { λ s r. ⌜ FilledFrom s (base s i 0) (now (table .entry)) (now (table .exit)) ⌝ }
+    ensures { λ s r. ⌜ Scratch (now (shifts .entry)) (now (shifts .exit)) ⌝ }
+    ensures { λ s r. ⌜ Scratch (now (reaches .entry)) (now (reaches .exit)) ⌝ }
+    ensures { λ s r. ⌜ Scratch (now (times .entry)) (now (times .exit)) ⌝ }
+    ensures { λ s r. ⌜ Scratch (now (part .entry)) (now (part .exit)) ⌝ }
 {
     let levels = f.levels as usize;
     let cells = f.energy_cells * f.temperature_cells;

@@ -38,7 +38,7 @@ relaxedAt shifts reaches times table levels cells at p (suc k) y =
     cond (ltb y (getD reaches u 0)) (min least (getD times u 0 + getD table (at + k * cells + (y + getD shifts u 0)) 0)) least
 
 -- The ways to the first k levels that are open to the words from y to `to`, all of them, for level p before: where they lead, what
--- they take, and that no other way is open.
+-- they take, and that no other way is open. What stands behind the first `count` may be anything.
 pub record Open (shifts reaches times : List ℕ) (levels cells at p k y end count to : ℕ) (froms costs : List ℕ) : Type 0 where
   pub some : y < to
   pub within : to ≤ end
@@ -47,6 +47,10 @@ pub record Open (shifts reaches times : List ℕ) (levels cells at p k y end cou
   pub low : (t : List ℕ) → Lows levels cells at y t → (w q : ℕ) → w < count → q < to - y → getD t (getD froms w 0 + q) 0 ≤ far
   pub short : (w : ℕ) → w < count → getD costs w 0 ≤ 20000000
   pub exact : (t : List ℕ) (q : ℕ) → q < to - y → leastBy t froms costs count q ≡ relaxedAt shifts reaches times t levels cells at p k (y + q)
+
+-- Lent scratch is as long as before. What its words hold is open: the caller lends it to be written over and reads none of it.
+pub record Scratch (old new : List ℕ) : Type 0 where
+  pub long : length new ≡ length old
 
 -- Each of the first `levels` parts has n words of its level. What else the parts hold is open: they are scratch.
 pub record Parted (old new : List ℕ) (levels n : ℕ) (f : ℕ → ℕ → ℕ) : Type 0 where

@@ -2,7 +2,7 @@ ghost use mathlib.Core.Path.{_≡_};
 ghost use Prim.Native.Nat.{ℕ, _+_, _*_, _-_, _≤_, _<_, min};
 ghost use lib.ListN.{length, getD};
 ghost use Rattle.runs.specs.Runs.{settled, Runs};
-ghost use Rattle.relax.specs.Levels.{partSize, Moving, Lows, relaxedAt, Open, Parted, Levels};
+ghost use Rattle.relax.specs.Levels.{partSize, Moving, Lows, relaxedAt, Open, Scratch, Parted, Levels};
 
 // The words of a level that are worked on at once.
 const PART_SIZE: usize = 384;
@@ -173,6 +173,7 @@ pub fn relax_words(
     requires { ⌜ Moving levels cells (now shifts) (now reaches) (now times) ⌝ }
     requires { ⌜ (at + levels * cells ≤ length (now table)) × (at + levels * cells ≤ 4194304) × (3072 ≤ length (now part)) × (Lows levels cells at 0 (now table)) ⌝ }
     ensures { λ r. ⌜ Levels (now (table .entry)) (now (table .exit)) at levels cells 0 cells (λ (p y : ℕ). settled (relaxedAt (now (shifts .entry)) (now (reaches .entry)) (now (times .entry)) (now (table .entry)) levels cells at p levels y)) ⌝ }
+    ensures { λ r. ⌜ Scratch (now (part .entry)) (now (part .exit)) ⌝ }
 {
     let mut x: usize = 0;
     while x < cells {

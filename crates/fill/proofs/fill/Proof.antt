@@ -81,7 +81,7 @@ loop-again c =
       omega (arith, w .kept, l .inv .2),
       omega (arith, w .kept, l .inv .3),
       omega (arith, w .kept, l .inv .4),
-      filled-trans (base-mono s (l .i - 1) (l .i) (omega arith)) (l .inv .5) (w .ensures),
+      filled-trans (base-mono s (l .i - 1) (l .i) (omega arith)) (l .inv .5) (w .ensures .0),
     )
 
 -- src/lib.rt:188:1

@@ -91,7 +91,11 @@ returns c =
     let a = c .before .before .before .before .before .before .before .before .before .before .before .before .before .before .before .before .before .before .before .before .before .before .before .before .before .before .before .before .before .before .before in
     let g = a .pre .0 .0 in
     let x = c .before .before .before .before .before .before .before .before .before .before .before .before .before .before .before .before .before .before .before .before .before .before .expand-job .ensures in
-    filled-by _ (g .ranges) (a .args .i) (a .pre .1 .1 .0) (c .before .before .before .before .before .before .before .before .before .before .before .before .before .before .before .before .find-moves .ensures) (g .levels) (cells-by g) (start-is g (a .args .i)) (x .0) (x .1) (a .pre .1 .1 .1) (c .before .before .before .before .relax-words .ensures)
+    let m = c .before .before .before .before .before .before .before .before .before .before .before .before .before .before .before .before .find-moves in
+    let r = c .before .before .before .before .relax-words .ensures in (
+      filled-by _ (g .ranges) (a .args .i) (a .pre .1 .1 .0) (m .ensures) (g .levels) (cells-by g) (start-is g (a .args .i)) (x .0) (x .1) (a .pre .1 .1 .1) (r .0),
+      (record { long = omega (arith, m .kept) }, (record { long = omega (arith, m .kept) }, (record { long = omega (arith, m .kept) }, r .1))),
+    )
 
 pub fill-job-spec : {M : Type 1} → statement M
 fill-job-spec =

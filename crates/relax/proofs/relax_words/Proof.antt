@@ -68,7 +68,9 @@ same-length-2 : tie.Need-same-length-2 Inv-loop μ-loop
 same-length-2 c = c .before .loop .inv .1
 
 returns : tie.Need-returns Inv-loop μ-loop
-returns c = rw (le-antisymm (c .before .loop .inv .0) (c .loop-test .left)) at (c .before .loop .inv .2)
+returns c =
+    let l = c .before .loop .inv in
+    (rw (le-antisymm (l .0) (c .loop-test .left)) at (l .2), record { long = l .1 })
 
 pub relax-words-spec : {M : Type 1} → statement M
 relax-words-spec = tie.close (tie.spec Inv-loop μ-loop loop-holds sub-fewest fewest-requires relax-part-requires copy-part-requires add-x loop-less loop-again same-length same-length-2 returns)
