@@ -2,8 +2,6 @@
 
 #include "check.h"
 
-#include <begbija.h>
-
 #include <signal.h>
 #include <stdarg.h>
 #include <stdio.h>
@@ -12,8 +10,7 @@
 #include <sys/mman.h>
 #include <unistd.h>
 
-// Odd, so that a lent part of bytes starts at no aligned address.
-enum { GUARD_BYTES = 61, GUARD_WORDS = 16, PART_ROOM = 16384, ANSWERS = 11 };
+enum { ANSWERS = 11 };
 
 static const char failed_sheet[] = "target/outside/failed.sheet";
 
@@ -27,6 +24,8 @@ static unsigned long checks;
 // The call under way, for the message of a failed check.
 static struct {
     const struct sheet *sheet;
+    const uint8_t *levels; // NULL where no list is lent
+    size_t levels_count;
     char lent[96];
 } call;
 
@@ -35,6 +34,7 @@ void begin_group(const char *name)
     memset(&group, 0, sizeof group);
     group.name = name;
     call.sheet = NULL;
+    call.levels = NULL;
 }
 
 void end_group(void)
@@ -49,6 +49,7 @@ unsigned long all_checks(void)
     return checks;
 }
 
+// Writes the sheet of a failed check to a file.
 static void keep_failed_sheet(void)
 {
     FILE *file = fopen(failed_sheet, "wb");
@@ -56,6 +57,15 @@ static void keep_failed_sheet(void)
         return;
     if (fwrite(call.sheet->bytes, 1, call.sheet->length, file) == call.sheet->length && fclose(file) == 0)
         fprintf(stderr, "outside: that sheet is in %s\n", failed_sheet);
+}
+
+// Prints the list of levels of a failed check.
+static void print_list(void)
+{
+    fprintf(stderr, "outside: the list of levels is");
+    for (size_t i = 0; i < call.levels_count; i++)
+        fprintf(stderr, " %u", call.levels[i]);
+    fprintf(stderr, "\n");
 }
 
 void check(bool holds, const char *format, ...)
@@ -69,54 +79,17 @@ void check(bool holds, const char *format, ...)
     vfprintf(stderr, format, values);
     va_end(values);
     fprintf(stderr, "\n");
+    if (call.levels != NULL)
+        print_list();
     if (call.sheet != NULL)
         keep_failed_sheet();
     exit(1);
 }
 
-// The fault is raised inside a call, so none of the C library's locks is held.
-static void report_fault(int signal_number)
+unsigned long count_answer(unsigned refusal)
 {
-    check(false, "signal %d: memory that was not lent is touched", signal_number);
-}
-
-// The end of the memory that a sheet is put into.
-static uint8_t *sheet_end(void)
-{
-    static uint8_t *end;
-    if (end != NULL)
-        return end;
-    size_t page = (size_t)sysconf(_SC_PAGESIZE);
-    size_t room = (SHEET_ROOM + page - 1) / page * page;
-    uint8_t *start = mmap(NULL, room + page, PROT_READ | PROT_WRITE, MAP_PRIVATE | MAP_ANONYMOUS, -1, 0);
-    if (start == MAP_FAILED || mprotect(start + room, page, PROT_NONE) != 0) {
-        perror("outside: no memory for sheets");
-        exit(1);
-    }
-    signal(SIGSEGV, report_fault);
-    signal(SIGBUS, report_fault);
-    return end = start + room;
-}
-
-const uint8_t *lend_sheet(const struct sheet *sheet)
-{
-    call.sheet = sheet;
-    call.lent[0] = 0;
-    return memcpy(sheet_end() - sheet->length, sheet->bytes, sheet->length);
-}
-
-static void end_call(void)
-{
-    const uint8_t *lent = sheet_end() - call.sheet->length;
-    check(memcmp(lent, call.sheet->bytes, call.sheet->length) == 0, "the sheet is written to");
-    call.lent[0] = 0;
-}
-
-void answer_sheet(const struct sheet *sheet, uint32_t *table, size_t words, struct plain_answer *answer)
-{
-    plain_plan(lend_sheet(sheet), sheet->length, table, words, answer);
-    group.sheets++;
-    group.answered[answer->refusal.number]++;
+    group.answered[refusal]++;
+    return group.sheets++;
 }
 
 void check_answered(unsigned refusal, unsigned long least)
@@ -126,20 +99,72 @@ void check_answered(unsigned refusal, unsigned long least)
     check(answered >= least, "%lu of %lu sheets are answered with %u, expected %lu", answered, group.sheets, refusal, least);
 }
 
-// The refusal for a table of so many words and a part of so many bytes: 8 comes after 1 to 7, 9 after 8, 10 last.
-static unsigned refusal_with(const struct plain_answer *answer, size_t words, size_t bytes, size_t least_bytes)
+// The fault is raised inside a call, so none of the C library's locks is held.
+static void report_fault(int signal_number)
 {
-    unsigned number = answer->refusal.number;
-    if (number >= 1 && number <= 7)
-        return number;
-    if (words < answer->need)
-        return 8;
-    return bytes < least_bytes ? 9 : number;
+    check(false, "signal %d: memory that was not lent is touched", signal_number);
 }
 
-static void check_result(int64_t result, int64_t due)
+// The end of new memory in front of a page that nothing may touch.
+static uint8_t *guarded_end(size_t room)
 {
-    check(result == due, "result %lld, expected %lld", (long long)result, (long long)due);
+    size_t page = (size_t)sysconf(_SC_PAGESIZE);
+    room = (room + page - 1) / page * page;
+    uint8_t *start = mmap(NULL, room + page, PROT_READ | PROT_WRITE, MAP_PRIVATE | MAP_ANONYMOUS, -1, 0);
+    if (start == MAP_FAILED || mprotect(start + room, page, PROT_NONE) != 0) {
+        perror("outside: no memory to lend");
+        exit(1);
+    }
+    signal(SIGSEGV, report_fault);
+    signal(SIGBUS, report_fault);
+    return start + room;
+}
+
+// Where a lent sheet ends.
+static uint8_t *sheet_end(void)
+{
+    static uint8_t *end;
+    return end != NULL ? end : (end = guarded_end(SHEET_ROOM));
+}
+
+// Where a lent list of levels ends.
+static uint8_t *list_end(void)
+{
+    static uint8_t *end;
+    return end != NULL ? end : (end = guarded_end(LIST_ROOM));
+}
+
+const uint8_t *lend_sheet(const struct sheet *sheet)
+{
+    call.sheet = sheet;
+    call.levels = NULL;
+    call.lent[0] = 0;
+    return memcpy(sheet_end() - sheet->length, sheet->bytes, sheet->length);
+}
+
+const uint8_t *lend_list(const uint8_t *levels, size_t count)
+{
+    call.levels = levels;
+    call.levels_count = count;
+    return memcpy(list_end() - count, levels, count);
+}
+
+void begin_call(const char *format, ...)
+{
+    va_list values;
+    va_start(values, format);
+    vsnprintf(call.lent, sizeof call.lent, format, values);
+    va_end(values);
+}
+
+void end_call(void)
+{
+    const uint8_t *sheet = sheet_end() - call.sheet->length;
+    check(memcmp(sheet, call.sheet->bytes, call.sheet->length) == 0, "the sheet is written to");
+    if (call.levels != NULL)
+        check(memcmp(list_end() - call.levels_count, call.levels, call.levels_count) == 0, "the list is written to");
+    call.levels = NULL;
+    call.lent[0] = 0;
 }
 
 // The first byte that is not the fill, or the size.
@@ -153,18 +178,7 @@ static size_t first_written(const uint8_t *bytes, size_t size, uint8_t fill)
     return at;
 }
 
-// Lent memory with its guards, all sizes in bytes: a call leaves what is due at the start and the fill in every other place.
-struct lent {
-    const char *unit; // "byte" or "word", for the message
-    size_t unit_size;
-    const void *area;
-    size_t guard, size;
-    const void *due;
-    size_t due_size;
-    uint8_t fill;
-};
-
-static void check_lent(const struct lent *lent)
+void check_lent(const struct lent *lent)
 {
     const uint8_t *start = (const uint8_t *)lent->area + lent->guard;
     const uint8_t *due = lent->due;
@@ -180,50 +194,4 @@ static void check_lent(const struct lent *lent)
         check(false, "%s %zu before the start is written", lent->unit, (lent->guard - before - 1) / lent->unit_size + 1);
     size_t beyond = first_written(start + lent->due_size, rest, lent->fill);
     check(beyond == rest, "%s %zu is written, which has to stay", lent->unit, (lent->due_size + beyond) / lent->unit_size);
-}
-
-void check_text(const struct sheet *sheet, const struct plain_answer *answer, size_t bytes, uint8_t fill)
-{
-    static uint8_t area[PART_ROOM + 2 * GUARD_BYTES];
-    char due[TEXT_BYTES_MIN + 1];
-    unsigned refusal = refusal_with(answer, PLAN_TABLE_WORDS, bytes, TEXT_BYTES_MIN);
-    size_t written = refusal == 0 ? plain_print(answer, due) : 0;
-    memset(area, fill, bytes + 2 * GUARD_BYTES);
-    const uint8_t *lent = lend_sheet(sheet);
-    snprintf(call.lent, sizeof call.lent, "begbija_plan_text with %zu bytes: ", bytes);
-    int64_t result = begbija_plan_text(lent, sheet->length, area + GUARD_BYTES, bytes);
-    check_result(result, refusal == 0 ? (int64_t)written : -(int64_t)refusal);
-    check_lent(&(struct lent){"byte", 1, area, GUARD_BYTES, bytes, due, written, fill});
-    end_call();
-}
-
-void check_plan(const struct sheet *sheet, const struct plain_answer *answer, const uint32_t *answer_table, size_t words,
-                size_t bytes, uint8_t fill)
-{
-    static uint32_t table[TABLE_WORDS_MAX + 1 + 2 * GUARD_WORDS];
-    static uint8_t area[PART_ROOM + 2 * GUARD_BYTES];
-    unsigned refusal = refusal_with(answer, words, bytes, answer->frame.jobs);
-    size_t filled = refusal == 0 || refusal == NO_PLAN ? answer->need : 0;
-    size_t written = refusal == 0 ? answer->frame.jobs : 0;
-    memset(table, fill, (words + 2 * GUARD_WORDS) * sizeof *table);
-    memset(area, fill, bytes + 2 * GUARD_BYTES);
-    const uint8_t *lent = lend_sheet(sheet);
-    snprintf(call.lent, sizeof call.lent, "begbija_plan with %zu words and %zu bytes: ", words, bytes);
-    int64_t result = begbija_plan(lent, sheet->length, table + GUARD_WORDS, words, area + GUARD_BYTES, bytes);
-    check_result(result, -(int64_t)refusal);
-    check_lent(&(struct lent){"word", sizeof *table, table, GUARD_WORDS * sizeof *table, words * sizeof *table, answer_table,
-                              filled * sizeof *table, fill});
-    check_lent(&(struct lent){"byte", 1, area, GUARD_BYTES, bytes, answer->levels, written, fill});
-    end_call();
-}
-
-const struct plain_answer *check_sheet(const struct sheet *sheet)
-{
-    static struct plain_answer answer;
-    static uint32_t table[PLAN_TABLE_WORDS];
-    answer_sheet(sheet, table, PLAN_TABLE_WORDS, &answer);
-    uint8_t fill = group.sheets % 2 == 0 ? FILL : (uint8_t)~FILL;
-    check_text(sheet, &answer, TEXT_BYTES_MIN, fill);
-    check_plan(sheet, &answer, table, PLAN_TABLE_WORDS, JOBS_MAX, fill);
-    return &answer;
 }

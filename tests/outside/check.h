@@ -1,4 +1,4 @@
-// The library's two calls on lent memory with guards around it, each held to the plain planner's answer.
+// Groups of checks, what a failed one says, and memory to lend with guards around it.
 #ifndef CHECK_H
 #define CHECK_H
 
@@ -6,8 +6,8 @@
 
 enum {
     SHEET_ROOM = 24576,
-    NO_PLAN = 10, // the refusal's number
-    FILL = 0xA5   // what lent memory holds before a call; its complement is the second fill
+    LIST_ROOM = 4096,
+    FILL = 0xA5 // what lent memory holds before a call; its complement is the second fill
 };
 
 struct sheet {
@@ -22,27 +22,35 @@ void end_group(void);
 
 unsigned long all_checks(void);
 
-// Counts a check; where it does not hold, says so of the sheet that was lent last, and ends the program.
+// Counts a check; where it does not hold, says so of the call under way or of the sheet that was lent last, and ends the program.
 void check(bool holds, const char *format, ...) __attribute__((format(printf, 2, 3)));
 
-// Puts a sheet in front of a page that nothing may touch, so that reading beyond its end is seen.
-const uint8_t *lend_sheet(const struct sheet *sheet);
-
-// The plain planner's answer with a table of so many words, counted for the group.
-void answer_sheet(const struct sheet *sheet, uint32_t *table, size_t words, struct plain_answer *answer);
+// Counts a sheet with its answer, a refusal or 0 for a plan, and hands back how many were counted before.
+unsigned long count_answer(unsigned refusal);
 
 // Checks that so many sheets of the group or more were answered with a refusal, or with a plan, 0.
 void check_answered(unsigned refusal, unsigned long least);
 
-// begbija_plan_text with a part of so many bytes. The plain planner's answer is one for a table of PLAN_TABLE_WORDS or more.
-void check_text(const struct sheet *sheet, const struct plain_answer *answer, size_t bytes, uint8_t fill);
+// Puts a sheet, or a list of levels, in front of a page that nothing may touch, so that reading beyond its end is seen.
+const uint8_t *lend_sheet(const struct sheet *sheet);
+const uint8_t *lend_list(const uint8_t *levels, size_t count);
 
-// begbija_plan with a table of so many words and a part of so many bytes. The plain planner's answer is one for a table of as
-// many words or more, and answer_table is that table.
-void check_plan(const struct sheet *sheet, const struct plain_answer *answer, const uint32_t *answer_table, size_t words,
-                size_t bytes, uint8_t fill);
+// Begins a call on the sheet that was lent last, with what it lends, for the message; ends it: what it may only read has to be as
+// it was.
+void begin_call(const char *format, ...) __attribute__((format(printf, 1, 2)));
+void end_call(void);
 
-// Both calls as the logger makes them, against the plain planner, whose answer is handed back.
-const struct plain_answer *check_sheet(const struct sheet *sheet);
+// Lent memory with its guards, all sizes in bytes: a call leaves what is due at the start and the fill in every other place.
+struct lent {
+    const char *unit; // "byte", "word" or "figure", for the message
+    size_t unit_size;
+    const void *area;
+    size_t guard, size;
+    const void *due;
+    size_t due_size;
+    uint8_t fill;
+};
+
+void check_lent(const struct lent *lent);
 
 #endif

@@ -1,4 +1,5 @@
 // The cases that document 01 states, with the figures printed there. None of the expectations comes from the plain planner.
+#include "calls.h"
 #include "groups.h"
 #include "sheets.h"
 
@@ -53,6 +54,7 @@ static const char equal_levels[] = "V\t1\n"
 
 static struct sheet sheet;
 
+// The plain planner prints the same, so that what is held to it is held to the document as well.
 static void check_plain(const char *prints)
 {
     static struct plain_answer answer;
@@ -63,41 +65,123 @@ static void check_plain(const char *prints)
     check(length == strlen(prints) && memcmp(text, prints, length) == 0, "the plain planner prints %.*s", (int)length, text);
 }
 
-// What the two calls have to return for what `plan` prints.
+// What begbija_plan has to reply where `plan` prints this: the figures of the P line or the R line.
+static struct begbija_reply reply_for(const char *prints)
+{
+    unsigned long long one, two, three;
+    struct begbija_reply reply = {0};
+    if (sscanf(prints, "R\t%llu\t%llu\t%llu\n", &one, &two, &three) == 3)
+        reply = (struct begbija_reply){.refusal = one, .line = two, .field = three};
+    else if (sscanf(prints, "P\t%*u\t%llu\t%llu\t%llu\n", &one, &two, &three) == 3)
+        reply = (struct begbija_reply){.time = one, .energy = two, .temperature = three};
+    return reply;
+}
+
+// The highest temperature of the printed Q lines, each line's last field.
+static uint64_t highest_printed(const char *prints)
+{
+    uint64_t highest = 0;
+    for (const char *line = strstr(prints, "\nQ"); line != NULL; line = strstr(line + 1, "\nQ")) {
+        unsigned long long temperature = 0;
+        sscanf(line, "\nQ\t%*s\t%*u\t%*u\t%*u\t%llu", &temperature);
+        highest = temperature > highest ? temperature : highest;
+    }
+    return highest;
+}
+
+// The sheet's own, field 7 of its H line.
+static uint64_t temperature_limit(void)
+{
+    return strtoull((const char *)sheet.bytes + find_field(&sheet, 2, 7).at, NULL, 10);
+}
+
+// Every figure of a reply beside what `plan` prints, the peak by its two bounds.
+static void check_reply(const struct begbija_reply *reply, const char *prints)
+{
+    struct begbija_reply due = reply_for(prints);
+    uint64_t least = highest_printed(prints), most = prints[0] == 'P' ? temperature_limit() : 0;
+    check(reply->peak >= least && reply->peak <= most, "peak %llu, expected %llu to %llu", (unsigned long long)reply->peak,
+          (unsigned long long)least, (unsigned long long)most);
+    due.peak = reply->peak;
+    check(memcmp(reply, &due, sizeof due) == 0, "begbija_plan replies %llu, %llu, %llu, %llu, %llu, %llu, expected %s",
+          (unsigned long long)reply->refusal, (unsigned long long)reply->line, (unsigned long long)reply->field,
+          (unsigned long long)reply->time, (unsigned long long)reply->energy, (unsigned long long)reply->temperature, prints);
+}
+
+// What the planning calls have to return for what `plan` prints.
 static void check_prints(const char *prints)
 {
     static uint8_t text[TEXT_BYTES_MIN];
     static uint32_t table[PLAN_TABLE_WORDS];
     uint8_t levels[JOBS_MAX];
-    int64_t refused = prints[0] == 'R' ? -strtol(prints + 2, NULL, 10) : 0;
-    int64_t due = prints[0] == 'R' ? refused : (int64_t)strlen(prints);
+    struct begbija_reply reply;
+    memset(&reply, FILL, sizeof reply);
+    int64_t refused = -(int64_t)reply_for(prints).refusal;
+    int64_t due = refused < 0 ? refused : (int64_t)strlen(prints);
     const uint8_t *lent = lend_sheet(&sheet);
     int64_t result = begbija_plan_text(lent, sheet.length, text, sizeof text);
     check(result == due, "begbija_plan_text: result %lld, expected %lld", (long long)result, (long long)due);
-    if (prints[0] == 'P')
+    if (refused == 0)
         check(memcmp(text, prints, strlen(prints)) == 0, "begbija_plan_text writes %.*s", (int)due, (const char *)text);
-    result = begbija_plan(lent, sheet.length, table, PLAN_TABLE_WORDS, levels, sizeof levels);
+    result = begbija_plan(lent, sheet.length, table, PLAN_TABLE_WORDS, levels, sizeof levels, &reply);
     check(result == refused, "begbija_plan: result %lld, expected %lld", (long long)result, (long long)refused);
+    check_reply(&reply, prints);
     check_plain(prints);
 }
 
+// The levels of a plan, with a part of one byte for each job.
 static void check_levels(const char *name, const char *text, const uint8_t *due, size_t jobs)
 {
     static uint32_t table[PLAN_TABLE_WORDS];
     uint8_t levels[JOBS_MAX] = {9, 9};
+    struct begbija_reply reply;
     set_text(&sheet, text);
     set_name(&sheet, "%s", name);
-    int64_t result = begbija_plan(lend_sheet(&sheet), sheet.length, table, PLAN_TABLE_WORDS, levels, jobs);
+    int64_t result = begbija_plan(lend_sheet(&sheet), sheet.length, table, PLAN_TABLE_WORDS, levels, jobs, &reply);
     check(result == 0 && memcmp(levels, due, jobs) == 0, "begbija_plan: result %lld, the first level %u", (long long)result,
           levels[0]);
 }
 
-static void check_need(size_t words, int64_t due)
+// What begbija_plan returns for a table of so many words.
+static void check_words(size_t words, int64_t due)
 {
     static uint32_t table[PLAN_TABLE_WORDS];
     uint8_t levels[JOBS_MAX];
-    int64_t result = begbija_plan(lend_sheet(&sheet), sheet.length, table, words, levels, sizeof levels);
+    struct begbija_reply reply;
+    int64_t result = begbija_plan(lend_sheet(&sheet), sheet.length, table, words, levels, sizeof levels, &reply);
     check(result == due, "begbija_plan with %zu words: result %lld, expected %lld", words, (long long)result, (long long)due);
+}
+
+// What begbija_need returns.
+static void check_need_is(int64_t due)
+{
+    int64_t result = begbija_need(lend_sheet(&sheet), sheet.length);
+    check(result == due, "begbija_need: result %lld, expected %lld", (long long)result, (long long)due);
+}
+
+// What begbija_measure returns and writes for a list of levels.
+static void check_measured(const uint8_t *levels, size_t count, struct begbija_margins due)
+{
+    struct begbija_margins margins;
+    memset(&margins, FILL, sizeof margins);
+    const uint8_t *lent = lend_sheet(&sheet);
+    int64_t result = begbija_measure(lent, sheet.length, lend_list(levels, count), count, &margins);
+    check(result == -due.refusal && memcmp(&margins, &due, sizeof due) == 0,
+          "begbija_measure: result %lld; %lld, %lld, %lld, margins %lld, %lld, %lld", (long long)result,
+          (long long)margins.refusal, (long long)margins.line, (long long)margins.field, (long long)margins.time,
+          (long long)margins.energy, (long long)margins.temperature);
+}
+
+// The printed sheet's own margins, and refusals 11 and 12.
+static void check_lists(void)
+{
+    check_measured((const uint8_t[]){0, 1}, 2, (struct begbija_margins){0, 0, 0, 3, 37, -250});
+    check_measured((const uint8_t[]){1, 0}, 2, (struct begbija_margins){0, 0, 0, 1, 24, 0});
+    check_measured((const uint8_t[]){0, 0}, 2, (struct begbija_margins){0, 0, 0, -8, 55, 750});
+    check_measured((const uint8_t[]){0}, 1, (struct begbija_margins){.refusal = 11});
+    check_measured((const uint8_t[]){2, 0, 0}, 3, (struct begbija_margins){.refusal = 11});
+    check_measured((const uint8_t[]){0, 2}, 2, (struct begbija_margins){.refusal = 12, .field = 1});
+    check_measured((const uint8_t[]){2, 9}, 2, (struct begbija_margins){.refusal = 12, .field = 0});
 }
 
 void test_document(const char *top)
@@ -113,9 +197,13 @@ void test_document(const char *top)
     set_text(&sheet, "");
     set_name(&sheet, "the empty sheet");
     check_prints("R\t2\t1\t0\n");
+    check_need_is(-2);
+    check_measured((const uint8_t[]){9}, 1, (struct begbija_margins){.refusal = 2, .line = 1});
     check_levels("two equal levels", equal_levels, (const uint8_t[]){0}, 1);
     check_prints("P\t1\t5\t5\t0\nQ\tone\t0\t5\t5\t0\n");
     check_levels("the printed sheet's levels", printed_sheet, (const uint8_t[]){1, 0}, 2);
-    check_need(1144, 0);
-    check_need(1143, -8);
+    check_need_is(1144);
+    check_words(1144, 0);
+    check_words(1143, -8);
+    check_lists();
 }

@@ -4,11 +4,15 @@
 
 void test_vectors(const char *top);
 void test_examples(const char *top);
+void test_table_inside(const char *top);
 void test_changed_sheets(const char *top);
 void test_lent_memory(const char *top);
 void test_largest_table(const char *top);
+void test_needs(const char *top);
+void test_measured_lists(const char *top);
 void test_document(const char *top);
 void test_random_sheets(const char *top);
 void test_noise(const char *top);
+void test_threads(const char *top);
 
 #endif

@@ -1,4 +1,5 @@
 // Lent memory of every critical length, for each outcome, and the largest table.
+#include "calls.h"
 #include "groups.h"
 #include "sheets.h"
 
@@ -9,12 +10,14 @@ static struct sheet sheet;
 static struct plain_answer answer;
 static uint32_t answer_table[TABLE_WORDS_MAX];
 
+// The plain planner answers the sheet so; the answer serves the checks that follow.
 static void check_answer(unsigned refusal)
 {
     answer_sheet(&sheet, answer_table, TABLE_WORDS_MAX, &answer);
     check(answer.refusal.number == refusal, "the plain planner answers %u, expected %u", answer.refusal.number, refusal);
 }
 
+// begbija_plan_text with parts of every critical length.
 static void check_texts(uint8_t fill)
 {
     char text[TEXT_BYTES_MIN + 1];
@@ -24,6 +27,7 @@ static void check_texts(uint8_t fill)
         check_text(&sheet, &answer, lengths[i], fill);
 }
 
+// begbija_plan with tables and parts of every critical length.
 static void check_plans(uint8_t fill)
 {
     // A refused sheet has no need; that of the printed sheet will do.
@@ -36,14 +40,34 @@ static void check_plans(uint8_t fill)
             check_plan(&sheet, &answer, answer_table, words[i], bytes[j], fill);
 }
 
+// Lists of the jobs' number and of others, with no level that is too high, with one at the end, and with nothing else.
+static void check_measures(uint8_t fill)
+{
+    uint8_t levels[LIST_ROOM] = {0};
+    size_t jobs = answer.frame.jobs > 0 ? answer.frame.jobs : 2;
+    const size_t lengths[] = {0, 1, jobs - 1, jobs, jobs + 1, JOBS_MAX, LIST_ROOM};
+    for (size_t i = 0; i < sizeof lengths / sizeof lengths[0]; i++) {
+        size_t length = lengths[i];
+        memset(levels, 0, sizeof levels);
+        check_measure(&sheet, &answer, levels, length, fill);
+        if (length > 0)
+            levels[length - 1] = LEVELS_MAX;
+        check_measure(&sheet, &answer, levels, length, fill);
+        memset(levels, 255, sizeof levels);
+        check_measure(&sheet, &answer, levels, length, fill);
+    }
+}
+
 // Two fills that differ in every bit, so that no written value can pass for one left as it was.
 static void check_lengths(unsigned refusal)
 {
     check_answer(refusal);
+    check_need(&sheet, &answer);
     for (int i = 0; i < 2; i++) {
         uint8_t fill = i == 0 ? FILL : (uint8_t)~FILL;
         check_texts(fill);
         check_plans(fill);
+        check_measures(fill);
     }
 }
 
@@ -113,8 +137,8 @@ void test_lent_memory(const char *top)
     check_printed_with("energy budget 2000000000", 2, 6, "2000000000", 7);
 }
 
-// A frame of the largest need: m 64, l 8, W 63, g 1, C 127, h 1, start temperature 0. With a least energy of 1 for each job, 64 of
-// them are over the budget.
+// A frame of the largest need: m 64, l 8, W 63, g 1, C 127, h 1, start temperature 0. With a least energy of 1 for each job, 64
+// of them are over the budget.
 static void largest_frame(struct plain_frame *frame, uint64_t least_energy)
 {
     uint64_t seed = 64;
@@ -144,7 +168,8 @@ static void check_largest(const char *name, uint64_t least_energy, unsigned refu
     write_sheet(&sheet, &frame);
     set_name(&sheet, "%s", name);
     check_answer(refusal);
-    check(answer.need == 4194304, "the need is %llu", (unsigned long long)answer.need);
+    int64_t need = check_need(&sheet, &answer);
+    check(need == 4194304, "the need is %lld", (long long)need);
     check_plan(&sheet, &answer, answer_table, 4194304, JOBS_MAX, FILL);
     check_plan(&sheet, &answer, answer_table, 4194304, JOBS_MAX, (uint8_t)~FILL);
     check_plan(&sheet, &answer, answer_table, 4194303, JOBS_MAX, FILL);
@@ -160,6 +185,8 @@ void test_largest_table(const char *top)
     set_field(&sheet, 2, 6, "64");
     set_name(&sheet, "energy budget 64");
     check_answer(7);
+    int64_t need = check_need(&sheet, &answer);
+    check(need == 4259840, "the need is %lld", (long long)need);
     check_plan(&sheet, &answer, answer_table, 4194304, JOBS_MAX, FILL);
     check_text(&sheet, &answer, TEXT_BYTES_MIN, FILL);
 }

@@ -1,4 +1,5 @@
 // Bytes that are hardly a sheet: drawn bytes, and sheets with bytes, fields and lines put in the wrong places.
+#include "calls.h"
 #include "groups.h"
 #include "sheets.h"
 

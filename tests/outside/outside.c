@@ -1,4 +1,5 @@
-// Tests the static library from C: outside TOP [GROUP], with the repository's top. All groups are run, or the named one.
+// Tests the static library from C: `outside TOP [GROUP]`, with the repository's top. All groups are run, or the named one.
+// `outside groups` prints their names.
 #include "check.h"
 #include "groups.h"
 
@@ -11,21 +12,37 @@ static const struct {
 } groups[] = {
     {"vectors", test_vectors},
     {"examples", test_examples},
+    {"table inside", test_table_inside},
     {"changed sheets", test_changed_sheets},
     {"lent memory", test_lent_memory},
     {"largest table", test_largest_table},
+    {"needs", test_needs},
+    {"measured lists", test_measured_lists},
     {"document 01", test_document},
     {"random sheets", test_random_sheets},
     {"noise", test_noise},
+    {"threads", test_threads},
 };
+
+enum { GROUPS = sizeof groups / sizeof groups[0] };
+
+// One name in each line.
+static int print_groups(void)
+{
+    for (size_t i = 0; i < GROUPS; i++)
+        puts(groups[i].name);
+    return 0;
+}
 
 int main(int count, char **words)
 {
     if (count < 2 || count > 3) {
-        fprintf(stderr, "usage: outside TOP [GROUP]\n");
+        fprintf(stderr, "usage: outside TOP [GROUP] | outside groups\n");
         return 2;
     }
-    for (size_t i = 0; i < sizeof groups / sizeof groups[0]; i++) {
+    if (strcmp(words[1], "groups") == 0)
+        return print_groups();
+    for (size_t i = 0; i < GROUPS; i++) {
         if (count == 3 && strcmp(words[2], groups[i].name) != 0)
             continue;
         begin_group(groups[i].name);

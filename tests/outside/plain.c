@@ -208,6 +208,17 @@ struct plain_state plain_raised(const struct plain_frame *frame, struct plain_st
     return state;
 }
 
+struct plain_total plain_run(const struct plain_frame *frame, const uint8_t *levels)
+{
+    struct plain_state state = plain_start(frame);
+    uint64_t highest = 0;
+    for (uint64_t job = 0; job < frame->jobs; job++) {
+        state = plain_after(frame, state, job, levels[job]);
+        highest = state.temperature > highest ? state.temperature : highest;
+    }
+    return (struct plain_total){state.time, state.energy, state.temperature, highest};
+}
+
 static uint64_t energy_cells(const struct plain_frame *frame)
 {
     return divide_up(frame->energy_budget, frame->energy_step) + 1;
@@ -300,10 +311,35 @@ void plain_plan(const uint8_t *sheet, size_t length, uint32_t *table, size_t wor
     }
     fill_table(frame, table);
     uint32_t least = table[place_of(frame, 0, plain_start(frame))];
-    if (least == INFEASIBLE || least > frame->deadline)
+    if (least == INFEASIBLE || least > frame->deadline) {
         answer->refusal.number = 10;
-    else
-        choose_levels(frame, table, answer->levels);
+        return;
+    }
+    choose_levels(frame, table, answer->levels);
+    answer->total = plain_run(frame, answer->levels);
+}
+
+bool plain_refused(const struct plain_answer *answer)
+{
+    return answer->refusal.number >= 1 && answer->refusal.number <= 6;
+}
+
+struct plain_margins plain_measure(const struct plain_answer *answer, const uint8_t *levels, size_t count)
+{
+    const struct plain_frame *frame = &answer->frame;
+    if (plain_refused(answer))
+        return (struct plain_margins){.refusal = answer->refusal};
+    if (count != frame->jobs)
+        return (struct plain_margins){.refusal = {11, 0, 0}};
+    for (unsigned place = 0; place < count; place++)
+        if (levels[place] >= frame->levels)
+            return (struct plain_margins){.refusal = {12, 0, place}};
+    struct plain_total total = plain_run(frame, levels);
+    return (struct plain_margins){
+        .time = (int64_t)frame->deadline - (int64_t)total.time,
+        .energy = (int64_t)frame->energy_budget - (int64_t)total.energy,
+        .temperature = (int64_t)frame->temperature_limit - (int64_t)total.highest,
+    };
 }
 
 static size_t print_job(const struct plain_answer *answer, uint64_t job, struct plain_state state, char *text)
@@ -319,13 +355,11 @@ size_t plain_print(const struct plain_answer *answer, char text[TEXT_BYTES_MIN +
     if (refusal->number != 0)
         return (size_t)sprintf(text, "R\t%u\t%u\t%u\n", refusal->number, refusal->line, refusal->field);
     const struct plain_frame *frame = &answer->frame;
-    struct plain_state state = plain_start(frame);
-    for (uint64_t job = 0; job < frame->jobs; job++)
-        state = plain_after(frame, state, job, answer->levels[job]);
+    const struct plain_total *total = &answer->total;
     size_t length = (size_t)sprintf(text, "P\t%llu\t%llu\t%llu\t%llu\n", (unsigned long long)frame->jobs,
-                                    (unsigned long long)state.time, (unsigned long long)state.energy,
-                                    (unsigned long long)state.temperature);
-    state = plain_start(frame);
+                                    (unsigned long long)total->time, (unsigned long long)total->energy,
+                                    (unsigned long long)total->temperature);
+    struct plain_state state = plain_start(frame);
     for (uint64_t job = 0; job < frame->jobs; job++) {
         state = plain_after(frame, state, job, answer->levels[job]);
         length += print_job(answer, job, state, text + length);

@@ -51,12 +51,24 @@ struct plain_state {
     uint64_t level, time, energy, temperature;
 };
 
-// What is answered to a sheet: a refusal, all 0 for a plan, and the plan's levels.
+// A whole run without steps: how it ends, and the highest temperature at a job end.
+struct plain_total {
+    uint64_t time, energy, temperature, highest;
+};
+
+// What is answered to a sheet: a refusal, all 0 for a plan, and the plan's levels with their run, all 0 for a refusal.
 struct plain_answer {
     struct plain_refusal refusal;
     struct plain_frame frame;
     uint64_t need; // 0 where the sheet itself is refused
     uint8_t levels[JOBS_MAX];
+    struct plain_total total;
+};
+
+// What a list of levels leaves of the limits; all 0 for a refusal.
+struct plain_margins {
+    struct plain_refusal refusal;
+    int64_t time, energy, temperature;
 };
 
 // Power times thermal resistance, to the nearest whole number, an exact half upwards.
@@ -70,8 +82,16 @@ struct plain_state plain_after(const struct plain_frame *frame, struct plain_sta
 // Energy and temperature raised to the next multiples of their steps.
 struct plain_state plain_raised(const struct plain_frame *frame, struct plain_state state);
 
+struct plain_total plain_run(const struct plain_frame *frame, const uint8_t *levels);
+
 // Answers a sheet with a table of so many words and room enough for the plan. The table is filled for a plan and for 10.
 void plain_plan(const uint8_t *sheet, size_t length, uint32_t *table, size_t words, struct plain_answer *answer);
+
+// Whether the answered sheet itself is refused, by 1 to 6, so that it has no figures.
+bool plain_refused(const struct plain_answer *answer);
+
+// Measures a list of so many levels on the answered sheet.
+struct plain_margins plain_measure(const struct plain_answer *answer, const uint8_t *levels, size_t count);
 
 // Writes what the program `plan` prints for an answer, and returns its length.
 size_t plain_print(const struct plain_answer *answer, char text[TEXT_BYTES_MIN + 1]);

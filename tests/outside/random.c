@@ -1,4 +1,5 @@
 // Drawn sheets against the plain planner, and small ones against a search over all lists of levels.
+#include "calls.h"
 #include "groups.h"
 #include "sheets.h"
 

@@ -217,6 +217,34 @@ void draw_frame(uint64_t *seed, uint64_t jobs_max, uint64_t levels_max, struct p
     draw_limits(seed, frame);
 }
 
+void draw_list(uint64_t *seed, const struct plain_frame *frame, uint8_t *levels)
+{
+    for (uint64_t i = 0; i < frame->jobs; i++)
+        levels[i] = (uint8_t)draw(seed, frame->levels);
+}
+
+// Puts a level that is just too high, or far too high, at a drawn place.
+static void raise_level(uint64_t *seed, const struct plain_frame *frame, uint8_t *levels, size_t count)
+{
+    uint8_t level = draw(seed, 2) == 0 ? (uint8_t)frame->levels : (uint8_t)(frame->levels + draw(seed, 256 - frame->levels));
+    if (count > 0)
+        levels[draw(seed, count)] = level;
+}
+
+size_t spoil_list(uint64_t *seed, const struct plain_frame *frame, uint8_t *levels)
+{
+    const size_t jobs = frame->jobs, lengths[] = {jobs, jobs, jobs - 1, jobs + 1, 0, JOBS_MAX, jobs + 256, LIST_ROOM};
+    uint64_t kind = draw(seed, 8);
+    size_t count = lengths[kind];
+    if (count > jobs)
+        memset(levels + jobs, 0, count - jobs);
+    if (kind < 2 || draw(seed, 2) == 0)
+        raise_level(seed, frame, levels, count);
+    if (draw(seed, 2) == 0)
+        raise_level(seed, frame, levels, count);
+    return count;
+}
+
 // How many bytes stand from a place on before this one, or before the end.
 static size_t length_until(const struct sheet *sheet, size_t at, size_t end, uint8_t byte)
 {

@@ -25,6 +25,12 @@ uint64_t draw(uint64_t *seed, uint64_t below);
 // Figures of a sheet with at most so many jobs and levels, its limits near those of a drawn list.
 void draw_frame(uint64_t *seed, uint64_t jobs_max, uint64_t levels_max, struct plain_frame *frame);
 
+// A list of levels, one for each job.
+void draw_list(uint64_t *seed, const struct plain_frame *frame, uint8_t *levels);
+
+// Gives such a list another length, or levels that are too high, or both; how many levels it then has, LIST_ROOM at most.
+size_t spoil_list(uint64_t *seed, const struct plain_frame *frame, uint8_t *levels);
+
 // A part of a sheet's bytes.
 struct span {
     size_t at, length;

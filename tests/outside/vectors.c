@@ -1,6 +1,7 @@
 // The stored vectors and examples as they are, and sheets with bytes cut off, put in or changed, and with fields changed.
 #define _DEFAULT_SOURCE
 
+#include "calls.h"
 #include "groups.h"
 #include "sheets.h"
 
@@ -42,20 +43,36 @@ void test_vectors(const char *top)
     check_stored_sheets(top, "tests/vectors/*.sheet", 264);
 }
 
-// The example that needs a lent table has a plan with it.
-void test_examples(const char *top)
+// A stored sheet that is refused by 8 for the table inside, and planned with a lent one.
+static void check_lent_table(const char *top, const char *name)
 {
     static struct sheet sheet;
     static struct plain_answer answer;
     static uint32_t table[TABLE_WORDS_MAX];
     char path[512];
-    check_stored_sheets(top, "examples/*.sheet", 3);
-    check_stored_sheets(top, "examples/refused/*.sheet", 9);
-    snprintf(path, sizeof path, "%s/examples/long_frame.sheet", top);
+    snprintf(path, sizeof path, "%s/%s", top, name);
     load_sheet(&sheet, path);
     answer_sheet(&sheet, table, TABLE_WORDS_MAX, &answer);
     check(answer.refusal.number == 0, "the plain planner answers %u", answer.refusal.number);
-    check_plan(&sheet, &answer, table, TABLE_WORDS_MAX, JOBS_MAX, FILL);
+    check_plan(&sheet, &answer, table, answer.need, JOBS_MAX, FILL);
+    check_plan(&sheet, &answer, table, PLAN_TABLE_WORDS, JOBS_MAX, FILL);
+    check_text(&sheet, &answer, TEXT_BYTES_MIN, FILL);
+}
+
+void test_examples(const char *top)
+{
+    check_stored_sheets(top, "examples/*.sheet", 3);
+    check_stored_sheets(top, "examples/refused/*.sheet", 9);
+    check_lent_table(top, "examples/long_frame.sheet");
+}
+
+// A sheet that needs every word of the table inside has a plan; one that needs one word more is refused by 8.
+void test_table_inside(const char *top)
+{
+    check_stored_sheets(top, "tests/sheets/*.sheet", 2);
+    check_answered(0, 1);
+    check_answered(8, 1);
+    check_lent_table(top, "tests/sheets/need_16385.sheet");
 }
 
 static struct sheet changed;
