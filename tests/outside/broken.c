@@ -1,31 +1,42 @@
 // Wrong libraries, each with one defect that the variable DEFECT names. The linker puts these calls in front of the library's
 // own (-Wl,--wrap), and the tests have to fail.
+#define _POSIX_C_SOURCE 200809L
+
 #include "plain.h"
 
 #include <begbija.h>
 
+#include <sched.h>
 #include <stdlib.h>
 #include <string.h>
 
 int64_t __real_begbija_plan_text(const uint8_t *sheet, size_t sheet_len, uint8_t *text, size_t text_len);
 int64_t __real_begbija_plan(const uint8_t *sheet, size_t sheet_len, uint32_t *table, size_t table_len, uint8_t *levels,
-                            size_t levels_len);
+                            size_t levels_len, struct begbija_reply *reply);
+int64_t __real_begbija_measure(const uint8_t *sheet, size_t sheet_len, const uint8_t *levels, size_t levels_len,
+                               struct begbija_margins *margins);
+int64_t __real_begbija_need(const uint8_t *sheet, size_t sheet_len);
 int64_t __wrap_begbija_plan_text(const uint8_t *sheet, size_t sheet_len, uint8_t *text, size_t text_len);
 int64_t __wrap_begbija_plan(const uint8_t *sheet, size_t sheet_len, uint32_t *table, size_t table_len, uint8_t *levels,
-                            size_t levels_len);
+                            size_t levels_len, struct begbija_reply *reply);
+int64_t __wrap_begbija_measure(const uint8_t *sheet, size_t sheet_len, const uint8_t *levels, size_t levels_len,
+                               struct begbija_margins *margins);
+int64_t __wrap_begbija_need(const uint8_t *sheet, size_t sheet_len);
 
+// Whether this is the defect that is tried.
 static bool is(const char *defect)
 {
     const char *chosen = getenv("DEFECT");
     return chosen != NULL && strcmp(chosen, defect) == 0;
 }
 
-static struct plain_answer answer;
-
-static void answer_again(const uint8_t *sheet, size_t length)
+// What the plain planner knows of a sheet; where it lends a table, the plan as well.
+static const struct plain_answer *answer_again(const uint8_t *sheet, size_t length, bool with_table)
 {
+    static _Thread_local struct plain_answer answer;
     static uint32_t table[TABLE_WORDS_MAX];
-    plain_plan(sheet, length, table, TABLE_WORDS_MAX, &answer);
+    plain_plan(sheet, length, table, with_table ? TABLE_WORDS_MAX : 0, &answer);
+    return &answer;
 }
 
 // A text that is right but for a part of 4,095 bytes, which has to be refused.
@@ -38,69 +49,205 @@ static int64_t text_in_4095(const uint8_t *sheet, size_t sheet_len, uint8_t *tex
     return result;
 }
 
+// A text by a table that is one word longer than the one inside.
+static int64_t text_by_16385(const uint8_t *sheet, size_t sheet_len, uint8_t *text)
+{
+    char whole[TEXT_BYTES_MIN + 1];
+    size_t length = plain_print(answer_again(sheet, sheet_len, true), whole);
+    memcpy(text, whole, length);
+    return (int64_t)length;
+}
+
+// The sheet is copied to memory that all calls share.
+static int64_t text_of_copy(const uint8_t *sheet, size_t sheet_len, uint8_t *text, size_t text_len)
+{
+    static uint8_t copy[SHEET_BYTES_MAX];
+    if (sheet_len > sizeof copy)
+        return __real_begbija_plan_text(sheet, sheet_len, text, text_len);
+    memcpy(copy, sheet, sheet_len);
+    sched_yield();
+    return __real_begbija_plan_text(copy, sheet_len, text, text_len);
+}
+
+// What is done to a text once it is written.
+static int64_t harm_text(uint8_t *text, int64_t length)
+{
+    if (is("byte beyond the text"))
+        text[length] = 0;
+    if (is("byte before the text"))
+        text[-1] = 0;
+    if (is("last digit of the text"))
+        text[length - 2] ^= 1;
+    return is("text one byte short") ? length - 1 : length;
+}
+
 int64_t __wrap_begbija_plan_text(const uint8_t *sheet, size_t sheet_len, uint8_t *text, size_t text_len)
 {
     if (is("text in 4095 bytes") && text_len == TEXT_BYTES_MIN - 1)
         return text_in_4095(sheet, sheet_len, text);
+    if (is("16383 words inside") && __real_begbija_need(sheet, sheet_len) == 16384)
+        return -8;
+    if (is("16385 words inside") && __real_begbija_need(sheet, sheet_len) == 16385)
+        return text_by_16385(sheet, sheet_len, text);
+    if (is("sheet in shared memory"))
+        return text_of_copy(sheet, sheet_len, text, text_len);
     int64_t result = __real_begbija_plan_text(sheet, sheet_len, text, text_len);
     if (is("byte beyond the sheet read"))
         (void)*(const volatile uint8_t *)(sheet + sheet_len);
-    if (is("byte beyond the text") && result > 0)
-        text[result] = 0;
-    if (is("byte before the text") && result > 0)
-        text[-1] = 0;
-    if (is("text one byte short") && result > 0)
-        return result - 1;
-    if (is("last digit of the text") && result > 0)
-        text[result - 2] ^= 1;
     if (is("text touched on 10") && result == -10)
         text[0] = 'R';
     if (is("refusal off by one") && result < 0)
         return result - 1;
     if (is("bytes after the last line taken") && result == -6)
         return __wrap_begbija_plan_text(sheet, sheet_len - 1, text, text_len);
-    return result;
+    return result > 0 ? harm_text(text, result) : result;
+}
+
+// What is done to the words of a table that is filled.
+static void harm_table(const uint8_t *sheet, size_t sheet_len, uint32_t *table, size_t table_len)
+{
+    size_t need = (size_t)__real_begbija_need(sheet, sheet_len);
+    if (is("last word of the need"))
+        table[need - 1]--;
+    if (is("word beyond the need") && need < table_len)
+        table[need] = 0;
+}
+
+// Puts each of two figures in the place of the other.
+static void swap_figures(uint64_t *one, uint64_t *other)
+{
+    uint64_t figure = *one;
+    *one = *other;
+    *other = figure;
+}
+
+// What is done to the reply of a plan.
+static void harm_reply(const uint8_t *sheet, size_t sheet_len, struct begbija_reply *reply)
+{
+    if (is("time and energy swapped"))
+        swap_figures(&reply->time, &reply->energy);
+    if (is("peak of 0"))
+        reply->peak = 0;
+    if (is("peak of the last job end"))
+        reply->peak = reply->temperature;
+    if (is("peak above the temperature limit"))
+        reply->peak = answer_again(sheet, sheet_len, false)->frame.temperature_limit + 1;
+    if (is("figure beyond the reply"))
+        (&reply->peak)[1] = 0;
 }
 
 // Turns a plan away whose time is the deadline, and leaves lent memory as "no plan" does.
-static int64_t strict_deadline(const uint8_t *sheet, size_t sheet_len, uint8_t *levels, const uint8_t *before)
+static int64_t strict_deadline(const uint8_t *sheet, size_t sheet_len, uint8_t *levels, const uint8_t *before,
+                               struct begbija_reply *reply)
 {
-    answer_again(sheet, sheet_len);
-    struct plain_state state = plain_start(&answer.frame);
-    for (uint64_t i = 0; i < answer.frame.jobs; i++)
-        state = plain_after(&answer.frame, state, i, levels[i]);
-    if (state.time < answer.frame.deadline)
+    const struct plain_frame *frame = &answer_again(sheet, sheet_len, false)->frame;
+    if (reply->time < frame->deadline)
         return 0;
-    memcpy(levels, before, answer.frame.jobs);
+    memcpy(levels, before, frame->jobs);
+    *reply = (struct begbija_reply){.refusal = 10};
     return -10;
 }
 
-static void harm_table(const uint8_t *sheet, size_t sheet_len, uint32_t *table, size_t table_len)
+// What is done to the levels of a plan; what they held before is needed to take it back.
+static int64_t harm_levels(const uint8_t *sheet, size_t sheet_len, uint8_t *levels, size_t levels_len, const uint8_t *before,
+                           struct begbija_reply *reply)
 {
-    answer_again(sheet, sheet_len);
-    if (is("last word of the need"))
-        table[answer.need - 1]--;
-    if (is("word beyond the need") && answer.need < table_len)
-        table[answer.need] = 0;
+    size_t jobs = answer_again(sheet, sheet_len, false)->frame.jobs;
+    if (is("level beyond the jobs") && jobs < levels_len)
+        levels[jobs] = 0;
+    if (is("all levels 0"))
+        memset(levels, 0, jobs);
+    return is("10 where the deadline is just met") ? strict_deadline(sheet, sheet_len, levels, before, reply) : 0;
+}
+
+// A refusal that is wrong or wrongly replied.
+static int64_t harm_refusal(int64_t result, size_t levels_len, const struct begbija_reply *before, struct begbija_reply *reply)
+{
+    if (is("reply not written on a refusal"))
+        *reply = *before;
+    if (is("line and field swapped"))
+        swap_figures(&reply->line, &reply->field);
+    if (!is("9 before 8") || result != -8 || levels_len > 0)
+        return result;
+    reply->refusal = 9;
+    return -9;
 }
 
 int64_t __wrap_begbija_plan(const uint8_t *sheet, size_t sheet_len, uint32_t *table, size_t table_len, uint8_t *levels,
-                            size_t levels_len)
+                            size_t levels_len, struct begbija_reply *reply)
 {
     uint8_t before[JOBS_MAX] = {0};
+    struct begbija_reply reply_before = *reply;
     memcpy(before, levels, levels_len < JOBS_MAX ? levels_len : JOBS_MAX);
-    if (is("largest need refused") && table_len == TABLE_WORDS_MAX)
+    if (is("largest need refused") && table_len == TABLE_WORDS_MAX) {
+        *reply = (struct begbija_reply){.refusal = 7};
         return -7;
-    int64_t result = __real_begbija_plan(sheet, sheet_len, table, table_len, levels, levels_len);
+    }
+    int64_t result = __real_begbija_plan(sheet, sheet_len, table, table_len, levels, levels_len, reply);
     if (result == 0 || result == -10)
         harm_table(sheet, sheet_len, table, table_len);
-    if (is("level beyond the jobs") && result == 0 && answer.frame.jobs < levels_len)
-        levels[answer.frame.jobs] = 0;
-    if (is("all levels 0") && result == 0)
-        memset(levels, 0, answer.frame.jobs);
-    if (is("10 where the deadline is just met") && result == 0)
-        return strict_deadline(sheet, sheet_len, levels, before);
-    if (is("9 before 8") && result == -8 && levels_len == 0)
-        return -9;
+    if (result < 0)
+        return harm_refusal(result, levels_len, &reply_before, reply);
+    harm_reply(sheet, sheet_len, reply);
+    return harm_levels(sheet, sheet_len, levels, levels_len, before, reply);
+}
+
+// A refusal that is wrong, or leaves in the margins what was there before.
+static int64_t harm_list_refusal(size_t levels_len, const struct begbija_margins *before, struct begbija_margins *margins)
+{
+    if (is("11 and 12 swapped") && margins->refusal >= 11)
+        margins->refusal = 23 - margins->refusal;
+    if (is("12 before 11") && margins->refusal == 11 && levels_len > 0)
+        margins->refusal = 12;
+    if (is("place of 12 from 1") && margins->refusal == 12)
+        margins->field++;
+    if (is("margins not cleared on a refusal"))
+        *margins = (struct begbija_margins){margins->refusal, margins->line, margins->field, before->time, before->energy,
+                                            before->temperature};
+    return -margins->refusal;
+}
+
+// What is done to margins.
+static void harm_margins(const uint8_t *sheet, size_t sheet_len, struct begbija_margins *margins)
+{
+    if (is("sign of a margin"))
+        margins->temperature = -margins->temperature;
+    if (is("margins of a broken limit 0") && margins->time < 0)
+        margins->time = 0;
+    if (!is("start temperature as a job end"))
+        return;
+    const struct plain_frame *frame = &answer_again(sheet, sheet_len, false)->frame;
+    int64_t start = (int64_t)(frame->temperature_limit - frame->start_temperature);
+    margins->temperature = start < margins->temperature ? start : margins->temperature;
+}
+
+int64_t __wrap_begbija_measure(const uint8_t *sheet, size_t sheet_len, const uint8_t *levels, size_t levels_len,
+                               struct begbija_margins *margins)
+{
+    struct begbija_margins before = *margins;
+    int64_t result = __real_begbija_measure(sheet, sheet_len, levels, levels_len, margins);
+    if (is("byte beyond the list read"))
+        (void)*(const volatile uint8_t *)(levels + levels_len);
+    if (is("table needed to measure") && __real_begbija_need(sheet, sheet_len) > TABLE_WORDS_MAX) {
+        *margins = (struct begbija_margins){.refusal = 7};
+        return -7;
+    }
+    if (result < 0)
+        return harm_list_refusal(levels_len, &before, margins);
+    harm_margins(sheet, sheet_len, margins);
     return result;
+}
+
+int64_t __wrap_begbija_need(const uint8_t *sheet, size_t sheet_len)
+{
+    int64_t need = __real_begbija_need(sheet, sheet_len);
+    if (is("need one less") && need > 0)
+        return need - 1;
+    if (is("need at most 4194304") && need > TABLE_WORDS_MAX)
+        return TABLE_WORDS_MAX;
+    if (is("need above 4194304 refused") && need > TABLE_WORDS_MAX)
+        return -7;
+    if (is("need in 32 bits") && need > 0)
+        return (uint32_t)need;
+    return need;
 }
