@@ -1,16 +1,20 @@
 /*
- * What a logger's firmware does with a sheet at the start of a frame: it asks for the plan as text, with the table inside the
- * call, and, where that table is too short, lends a table of its own and sets the levels. On a logger the sheet comes over the
- * wire; here it is a file. The README has the command that builds it.
+ * What a logger's firmware does with a sheet at the start of a frame, with every call of the library. It asks how long a table
+ * the sheet needs, plans with the table of its board, and writes the plan as text where the table inside the call is long enough.
+ * At the end it measures what every job at level 0 would leave of the limits; where there is no plan, that may tell which limit
+ * is too tight. On a logger the sheet comes over the wire; here it is a file. The README has the command that builds it.
  */
 #include <begbija.h>
 #include <stdio.h>
 #include <stdlib.h>
 
+/* The board's table: as long as the longest that begbija_need told for the sheets it was built for. */
+enum { TABLE_WORDS = 4000000 };
+
 static uint8_t sheet[BEGBIJA_SHEET_MAX + 1];
-static uint8_t text[BEGBIJA_TEXT_MIN];
-static uint32_t table[BEGBIJA_TABLE_MAX];
+static uint32_t table[TABLE_WORDS];
 static uint8_t levels[BEGBIJA_JOBS_MAX];
+static uint8_t text[BEGBIJA_TEXT_MIN];
 
 /* A longer sheet is cut one byte beyond the longest that is taken, which is enough for the planner to refuse it. */
 static size_t read_sheet(const char *path)
@@ -25,22 +29,59 @@ static size_t read_sheet(const char *path)
     return size;
 }
 
-/* Plans with the lent table. The start of `levels` then has one level for each job; the others keep `unset`. */
-static int set_levels(size_t size)
+/* A logger knows its jobs; here they are the lines that start with J. */
+static size_t count_jobs(size_t size)
 {
-    const uint8_t unset = BEGBIJA_LEVELS_MAX;
-    for (size_t i = 0; i < BEGBIJA_JOBS_MAX; i++)
-        levels[i] = unset;
-    int64_t number = begbija_plan(sheet, size, table, BEGBIJA_TABLE_MAX, levels, sizeof levels);
-    if (number < 0) {
-        printf("refused by %lld\n", (long long)-number);
-        return 1;
+    size_t jobs = 0;
+    for (size_t i = 1; i < size && jobs < BEGBIJA_JOBS_MAX; i++)
+        jobs += sheet[i - 1] == '\n' && sheet[i] == 'J';
+    return jobs;
+}
+
+/* Whether the board's table is long enough. A refused sheet has no need; begbija_plan tells why. */
+static int table_fits(size_t size)
+{
+    int64_t need = begbija_need(sheet, size);
+    if (need > TABLE_WORDS)
+        printf("the sheet needs %lld words, the table has %d\n", (long long)need, TABLE_WORDS);
+    else if (need > 0)
+        printf("the sheet needs %lld words\n", (long long)need);
+    return need <= TABLE_WORDS;
+}
+
+/* Sets the levels of the frame. */
+static int plan(size_t size, size_t jobs)
+{
+    struct begbija_reply reply;
+    if (begbija_plan(sheet, size, table, TABLE_WORDS, levels, sizeof levels, &reply) < 0) {
+        printf("refused by %d, line %d, field %d\n", (int)reply.refusal, (int)reply.line, (int)reply.field);
+        return 0;
     }
+    printf("time %llu, energy %llu, temperature %llu, peak %llu\n", (unsigned long long)reply.time,
+           (unsigned long long)reply.energy, (unsigned long long)reply.temperature, (unsigned long long)reply.peak);
     printf("levels");
-    for (size_t i = 0; i < BEGBIJA_JOBS_MAX && levels[i] != unset; i++)
+    for (size_t i = 0; i < jobs; i++)
         printf(" %d", levels[i]);
     printf("\n");
-    return 0;
+    return 1;
+}
+
+/* The plan as text, job by job, for whoever reads the logger's memory; a sheet that needs a longer table has none. */
+static void keep_text(size_t size)
+{
+    int64_t length = begbija_plan_text(sheet, size, text, sizeof text);
+    if (length > 0)
+        fwrite(text, 1, (size_t)length, stdout);
+}
+
+/* What every job at level 0 leaves of the limits. */
+static void measure_lowest(size_t size, size_t jobs)
+{
+    static const uint8_t lowest[BEGBIJA_JOBS_MAX];
+    struct begbija_margins margins;
+    if (begbija_measure(sheet, size, lowest, jobs, &margins) == 0)
+        printf("level 0 leaves time %lld, energy %lld, temperature %lld\n", (long long)margins.time, (long long)margins.energy,
+               (long long)margins.temperature);
 }
 
 int main(int argc, char **argv)
@@ -49,14 +90,10 @@ int main(int argc, char **argv)
         fprintf(stderr, "usage: firmware SHEET\n");
         return 2;
     }
-    size_t size = read_sheet(argv[1]);
-    int64_t number = begbija_plan_text(sheet, size, text, sizeof text);
-    if (number == -BEGBIJA_TABLE_TOO_SHORT)
-        return set_levels(size);
-    if (number < 0) {
-        printf("refused by %lld\n", (long long)-number);
-        return 1;
-    }
-    fwrite(text, 1, (size_t)number, stdout);
-    return 0;
+    size_t size = read_sheet(argv[1]), jobs = count_jobs(size);
+    int planned = table_fits(size) && plan(size, jobs);
+    if (planned)
+        keep_text(size);
+    measure_lowest(size, jobs);
+    return planned ? 0 : 1;
 }
