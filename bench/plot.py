@@ -99,6 +99,8 @@ def memory_table(rows):
     size = {row["program"]: row["value"] for row in rows if row["table"] == "size"}
     lines = [
         ["stack, call with a lent table", "", *(f"{stack[program, 'plan']:,.0f}" for program in PROGRAMS)],
+        *([f"stack, {call}", "", f"{stack['begbija', figure]:,.0f}", *[""] * (len(PROGRAMS) - 1)]
+          for call, figure in (("measuring call", "measure"), ("call for the need", "need"))),
         ["stack, logger's call, less its table", f"{STACK_TARGET:,}",
          *(f"{stack[program, 'text'] - TABLE_BYTES:,.0f}" for program in PROGRAMS)],
         ["code", f"{SIZE_TARGET:,}", *(f"{size[program]:,.0f}" for program in PROGRAMS)],

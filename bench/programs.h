@@ -15,7 +15,7 @@ struct program {
     text_call *text;
 };
 
-enum { PROGRAMS = 4, HOISTED = 2 };
+enum { PROGRAMS = 4, LIBRARY = 0, HOISTED = 2 };
 
 extern const struct program programs[PROGRAMS];
 

@@ -1,50 +1,31 @@
-// How much stack a call uses: it runs on a stack of its own, filled with a pattern, and what is overwritten is counted.
-#define _XOPEN_SOURCE 700
+// How much stack the calls take: the library's four, and the two of each C planner.
+#include "../tests/outside/painted.h"
 #include "bench.h"
 
-#include <stdlib.h>
-#include <string.h>
-#include <ucontext.h>
+static const char *const figures[LIBRARY_CALLS] = {"text", "plan", "measure", "need"};
 
-enum { STACK_BYTES = 1 << 20, PATTERN = 0xA5 };
+// The most of each call; a C planner has the first two.
+typedef size_t most_of[PROGRAMS][LIBRARY_CALLS];
 
-struct most {
-    size_t plan, text;
-};
-
-static uint8_t stack[STACK_BYTES];
-static ucontext_t caller, callee;
-
-// What is run there: makecontext hands over no pointers.
+// What is run on the painted stack, which hands over no pointers.
 static const struct sheet *current;
 static const struct program *running;
-static int as_text;
 
-static void run_call(void)
+// A C planner's text.
+static void run_text(void)
 {
-    static uint8_t levels[LEVELS_ROOM], text[TEXT_BYTES];
-    if (as_text)
-        running->text(current->bytes, current->length, text, TEXT_BYTES);
-    else
-        running->plan(current->bytes, current->length, bench_table, TABLE_ROOM, levels, sizeof levels);
+    static uint8_t text[TEXT_BYTES];
+    running->text(current->bytes, current->length, text, TEXT_BYTES);
 }
 
-static size_t overwritten(void)
+// A C planner's plan with a lent table.
+static void run_plan(void)
 {
-    memset(stack, PATTERN, sizeof stack);
-    if (getcontext(&callee) != 0)
-        abort();
-    callee.uc_stack = (stack_t){.ss_sp = stack, .ss_size = sizeof stack};
-    callee.uc_link = &caller;
-    makecontext(&callee, run_call, 0);
-    if (swapcontext(&caller, &callee) != 0)
-        abort();
-    size_t untouched = 0;
-    while (untouched < sizeof stack && stack[untouched] == PATTERN)
-        untouched++;
-    return sizeof stack - untouched;
+    static uint8_t levels[LEVELS_ROOM];
+    running->plan(current->bytes, current->length, bench_table, TABLE_ROOM, levels, sizeof levels);
 }
 
+// Empty calls, whose stack is taken off.
 static int64_t plan_nothing(const uint8_t *sheet, size_t sheet_len, uint32_t *table, size_t table_len, uint8_t *levels,
                             size_t levels_len)
 {
@@ -58,28 +39,32 @@ static int64_t write_nothing(const uint8_t *sheet, size_t sheet_len, uint8_t *te
     return 0;
 }
 
-static size_t stack_of(const struct program *program, int text)
+// The stack of a call on the current sheet.
+static size_t stack_of(size_t program, enum library_call call)
 {
     static const struct program nothing = {"nothing", plan_nothing, write_nothing};
-    as_text = text;
+    void (*run)(void) = call == LIBRARY_PLAN_TEXT ? run_text : run_plan;
+    if (program == LIBRARY)
+        return library_stack(call, current->bytes, current->length, current->shape.jobs);
     running = &nothing;
-    size_t least = overwritten();
-    running = program;
-    return overwritten() - least;
+    size_t least = painted_stack(run);
+    running = &programs[program];
+    return painted_stack(run) - least;
 }
 
-static void try_sheet(const struct sheet *sheet, struct most most[PROGRAMS])
+// Every call of every program, and the most of each.
+static void try_sheet(const struct sheet *sheet, most_of most)
 {
     current = sheet;
-    for (size_t p = 0; p < PROGRAMS; p++) {
-        size_t plan = stack_of(&programs[p], 0), text = stack_of(&programs[p], 1);
-        most[p].plan = plan > most[p].plan ? plan : most[p].plan;
-        most[p].text = text > most[p].text ? text : most[p].text;
-    }
+    for (size_t p = 0; p < PROGRAMS; p++)
+        for (enum library_call call = 0; call < (p == LIBRARY ? LIBRARY_CALLS : LIBRARY_MEASURE); call++) {
+            size_t bytes = stack_of(p, call);
+            most[p][call] = bytes > most[p][call] ? bytes : most[p][call];
+        }
 }
 
 // A sheet cut after each of its bytes, refused by 2, and with each byte changed, refused by 2, 3, 4 or 7, or planned.
-static void try_refused(struct sheet *sheet, struct most most[PROGRAMS])
+static void try_refused(struct sheet *sheet, most_of most)
 {
     const size_t length = sheet->length;
     for (size_t at = 0; at < length; at++) {
@@ -96,7 +81,7 @@ static void try_refused(struct sheet *sheet, struct most most[PROGRAMS])
 void measure_stack(FILE *results)
 {
     static struct sheet sheet;
-    struct most most[PROGRAMS] = {{0, 0}};
+    most_of most = {{0}};
     for (size_t i = 0; i < SHAPES; i++) {
         make_sheet(&sheet, bench_shapes[i]);
         try_sheet(&sheet, most);
@@ -107,8 +92,7 @@ void measure_stack(FILE *results)
     try_sheet(&sheet, most);
     draw_sheet(&sheet, (struct shape){3, 2, 5, 5}, 0);
     try_refused(&sheet, most);
-    for (size_t p = 0; p < PROGRAMS; p++) {
-        write_result(results, "stack", &sheet, &programs[p], "plan", (double)most[p].plan);
-        write_result(results, "stack", &sheet, &programs[p], "text", (double)most[p].text);
-    }
+    for (size_t p = 0; p < PROGRAMS; p++)
+        for (enum library_call call = 0; call < (p == LIBRARY ? LIBRARY_CALLS : LIBRARY_MEASURE); call++)
+            write_result(results, "stack", &sheet, &programs[p], figures[call], (double)most[p][call]);
 }
