@@ -1,3 +1,4 @@
 pub mod Levels
 pub mod Replies
 pub mod Places
+pub mod Meaning

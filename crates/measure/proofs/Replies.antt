@@ -1,9 +1,8 @@
 -- Laws of the measuring call's reply: what each of its tests says, and that a list it measures fits the sheet.
 -- Assumes nothing.
 use mathlib.Core.Path.{_≡_, refl, sym}
-use mathlib.Core.List.{List, [], _∷_}
-use Prim.Native.Nat.{ℕ, zero, suc, _^_, _≤_, _<_}
-use native.Mathlib.Decide.{decLt}
+use mathlib.Core.List.{List}
+use Prim.Native.Nat.{ℕ, _^_, _≤_, _<_}
 use native.Mathlib.Omega.{arith}
 use lib.IntN.{ℤ, subℕ}
 use lib.ListN.{length, getD}
@@ -20,7 +19,7 @@ use Rattle.sheet.specs.Frame.{frameOf}
 use Rattle.sheet.proofs.Apart.{Refuses, refuses-some, accepted-refused}
 use Rattle.sheet.proofs.Ranges.{reading-ranges}
 use Rattle.measure.specs.Measure.{firstAbove, refusedAs, measuredAs, turnedAway, measureOf}
-use Rattle.measure.proofs.Levels.{above-here, above-on}
+use Rattle.measure.proofs.Levels.{below-all}
 
 -- ---- how large the figures of a measured list can be
 
@@ -39,20 +38,6 @@ pub margins-are : (s : Sheet) (js : List ℕ) (a : State) → a ≡ exactRun s (
     record { refusal = 0; line = 0; field = 0; time = time; energy = energy; temperature = temperature } ≡ measuredAs (margins s js)
 unfolding margins
 margins-are s js a h time energy temperature x y z = rw (x, y, z, h) refl
-
--- ---- a list with no level of l or more
-
-below-cons : (l j : ℕ) (js : List ℕ) → j < l → ((i : ℕ) → getD js i 0 < l) → (i : ℕ) → getD (j ∷ js) i 0 < l
-below-cons l j js b h zero = b
-below-cons l j js b h (suc i) = h i
-
-below-all : (l : ℕ) (js : List ℕ) → 1 ≤ l → length js ≤ firstAbove l js → (i : ℕ) → getD js i 0 < l
-below-all l [] h q = λ i. omega arith
-below-all l (j ∷ js) h q =
-    elim (decLt j l) [
-      | yes b ↦ below-cons l j js b (below-all l js h (omega (arith, above-on l js j b)))
-      | no b ↦ absurd (omega (arith, above-here l js j (omega arith)))
-    ]
 
 -- ---- the reply
 

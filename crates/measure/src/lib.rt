@@ -5,6 +5,7 @@ ghost use Rattle.frame.specs.Sheet.{Ranges};
 ghost use Rattle.sheet.specs.Frame.{frameOf};
 ghost use Rattle.frame.specs.Limits.{margins};
 ghost use Rattle.measure.specs.Measure.{firstAbove, measuredAs, refusedAs, measureOf};
+ghost use Rattle.measure.specs.Meaning.{Meaning};
 use run::Run;
 use sheet::Reading;
 use sheet::Refusal;
@@ -33,18 +34,20 @@ fn first_above(levels: &[u8], l: u32) -> usize
     i
 }
 
-// The margins of a list of at most 64 levels, each below 8, on a sheet in its ranges.
-fn margins_of(r: Reading, levels: &[u8]) -> Measured
+// The margins of a list of at most 64 levels, each below 8, on a sheet in its ranges. The reading's figures are lent beside it: a
+// lent field of a parameter would be copied to the stack.
+fn margins_of(r: Reading, figures: &[u32; 1672], levels: &[u8]) -> Measured
+    requires { ⌜ now figures ≡ r .figures ⌝ }
     requires { ⌜ (Ranges (frameOf r)) × (length (now levels) ≤ 64) × ((i : ℕ) → getD (now levels) i 0 < 8) ⌝ }
     ensures { λ q. ⌜ q ≡ measuredAs (margins (frameOf r) (now (levels .entry))) ⌝ }
 {
     let deadline = r.deadline as u64;
     let budget = r.energy_budget as u64;
     let limit = r.temperature_limit as u64;
-    let states = step::steady_states(&r.figures, r.resistance);
+    let states = step::steady_states(figures, r.resistance);
     let steady = states.levels;
     let first = Run::start(r.start_level, r.start_temperature as u64);
-    let st = step::run_levels(first, &r.figures, &steady, levels, levels.len());
+    let st = step::run_levels(first, figures, &steady, levels, levels.len());
     let time = margin::margin(deadline, st.time);
     let energy = margin::margin(budget, st.energy);
     let temperature = margin::margin(limit, st.peak);
@@ -75,6 +78,7 @@ fn refuse(refusal: u32, line: usize, field: usize) -> Measured
 // Measures a list of levels on a sheet.
 pub fn measure(s: &[u8], levels: &[u8]) -> Measured
     ensures { λ q. ⌜ q ≡ measureOf (now (s .entry)) (now (levels .entry)) ⌝ }
+    ensures { λ q. ⌜ Meaning (now (s .entry)) (now (levels .entry)) q ⌝ }
 {
     let r = sheet::read(s);
     let f = r.refusal;
@@ -89,5 +93,5 @@ pub fn measure(s: &[u8], levels: &[u8]) -> Measured
     if k < levels.len() {
         return refuse(12, 0, k);
     }
-    margins_of(r, levels)
+    margins_of(r, &r.figures, levels)
 }

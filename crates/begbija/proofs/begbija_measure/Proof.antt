@@ -13,7 +13,7 @@ measure-requires c κs = search needs
 
 put-margins-requires : tie.Need-put-margins-requires
 put-margins-requires c κs =
-    let n : Near (c .before .measure .result) = rw (c .before .measure .ensures) (measured-near _ _) in
+    let n : Near (c .before .measure .result) = rw (c .before .measure .ensures .0) (measured-near _ _) in
     (omega (arith, n), omega (arith, n))
 
 count-or-refusal-requires : tie.Need-count-or-refusal-requires
@@ -21,7 +21,7 @@ count-or-refusal-requires c κs = search needs
 
 returns : tie.Need-returns
 returns c =
-    let m = c .before .before .before .measure .ensures in
+    let m = c .before .before .before .measure .ensures .0 in
     let r = c .count-or-refusal in
     (handed-on (record { sfits = r .ok }) (r .ensures ∙ number-only (c .before .before .before .measure .result .refusal) ∙ ap (λ (q : Measured). minus (q .refusal)) m), c .before .put-margins .ensures ∙ ap figuresOf m)
 

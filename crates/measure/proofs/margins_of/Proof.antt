@@ -24,11 +24,11 @@ cast-limit : tie.Need-cast-limit
 cast-limit c = search needs
 
 steady-states-requires : tie.Need-steady-states-requires
-steady-states-requires c κs = λ j h. let a = c .before .before .before in rw (steady-in (a .args .t1) j h) (a .pre .0 .steady j)
+steady-states-requires c κs = λ j h. let a = c .before .before .before .before in rw (a .pre .0, steady-in (a .args .r) j h) (a .pre .1 .0 .steady j)
 
 -- The store and the steady-state temperatures are those of the sheet that was read.
-stored : (c : tie.After-steady-states) → let r = c .before .before .before .before .args .t1 in Stored (frameOf r) (r .figures) (c .steady-states .result .levels)
-stored c = rw (ap (λ (q : Steady). q .levels) (c .steady-states .ensures)) (read-stored _)
+stored : (c : tie.After-steady-states) → let a = c .before .before .before .before .before .args in Stored (frameOf (a .r)) (a .figures .now) (c .steady-states .result .levels)
+stored c = rw (ap (λ (q : Steady). q .levels) (c .steady-states .ensures), c .before .before .before .before .before .pre .0) (read-stored _)
 
 cast-start : tie.Need-cast-start
 cast-start c = search needs
@@ -40,32 +40,31 @@ run-levels-requires : tie.Need-run-levels-requires
 unfolding frameOf
 run-levels-requires c κs =
     let a = c .before .before .before .before .before .before .before .before .before in
-    (record { sheet = frameOf (a .args .t1); ranges = a .pre .0; stored = stored (c .before .before .before .before .before); start = c .before .before .before .start .ensures }, (a .pre .1, omega arith, λ i h. a .pre .2 i))
+    let p = a .pre .1 in
+    (record { sheet = frameOf (a .args .r); ranges = p .0; stored = stored (c .before .before .before .before); start = c .before .start .ensures }, (p .1, omega arith, λ i h. p .2 i))
 
 -- The whole list was run.
-ran : (c : tie.After-run-levels) → let a = c .before .before .before .before .before .before .before .before .before .before .args in stateOf (c .run-levels .result) ≡ exactRun (frameOf (a .t1)) (start (frameOf (a .t1))) (a .levels .now)
+ran : (c : tie.After-run-levels) → let a = c .before .before .before .before .before .before .before .before .before .before .args in stateOf (c .run-levels .result) ≡ exactRun (frameOf (a .r)) (start (frameOf (a .r))) (a .levels .now)
 unfolding frameOf
 ran c =
     let a = c .before .before .before .before .before .before .before .before .before .before in
-    c .run-levels .ensures (frameOf (a .args .t1)) (a .pre .0) (stored (c .before .before .before .before .before .before)) (c .before .before .before .before .start .ensures) ∙ ap (exactRun (frameOf (a .args .t1)) (start (frameOf (a .args .t1)))) (take-length (a .args .levels .now))
+    c .run-levels .ensures (frameOf (a .args .r)) (a .pre .1 .0) (stored (c .before .before .before .before .before)) (c .before .before .start .ensures) ∙ ap (exactRun (frameOf (a .args .r)) (start (frameOf (a .args .r)))) (take-length (a .args .levels .now))
 
 -- No figure of the run leaves a signed 64-bit number.
 under : (c : tie.After-run-levels) → Under (stateOf (c .run-levels .result))
-under c =
-    let a = c .before .before .before .before .before .before .before .before .before .before in
-    rw (ran c) (measured-under (a .pre .0) (a .args .levels .now) (a .pre .1))
+under c = let a = c .before .before .before .before .before .before .before .before .before .before in rw (ran c) (measured-under (a .pre .1 .0) (a .args .levels .now) (a .pre .1 .1))
 
 margin-requires : tie.Need-margin-requires
 unfolding frameOf
-margin-requires c κs = omega (arith, under c, c .before .before .before .before .before .before .before .before .before .before .pre .0 .deadline)
+margin-requires c κs = omega (arith, under c, c .before .before .before .before .before .before .before .before .before .before .pre .1 .0 .deadline)
 
 margin-requires-2 : tie.Need-margin-requires-2
 unfolding frameOf
-margin-requires-2 c κs = omega (arith, under (c .before), c .before .before .before .before .before .before .before .before .before .before .before .pre .0 .energyBudget)
+margin-requires-2 c κs = omega (arith, under (c .before), c .before .before .before .before .before .before .before .before .before .before .before .pre .1 .0 .energyBudget)
 
 margin-requires-3 : tie.Need-margin-requires-3
 unfolding frameOf
-margin-requires-3 c κs = omega (arith, under (c .before .before), c .before .before .before .before .before .before .before .before .before .before .before .before .pre .0 .temperatureLimit)
+margin-requires-3 c κs = omega (arith, under (c .before .before), c .before .before .before .before .before .before .before .before .before .before .before .before .pre .1 .0 .temperatureLimit)
 
 returns : tie.Need-returns
 unfolding frameOf

@@ -1,0 +1,81 @@
+-- The measuring call in words follows from its equation.
+-- Assumes nothing.
+use mathlib.Core.Path.{_≡_, refl, ap}
+use mathlib.Core.Bool.{cond}
+use mathlib.Core.List.{List}
+use Prim.Native.Nat.{ℕ, _≤_, _<_}
+use native.Mathlib.Omega.{arith}
+use lib.ListN.{length}
+use lib.Dec.{eqb, ltb}
+use borrow.Author.Tests.{ltb-true, ltb-false, eqb-true, eqb-false}
+use Rattle.frame.specs.Sheet.{Sheet}
+use Rattle.frame.specs.Demands.{Below}
+use Rattle.frame.specs.Limits.{margins}
+use Rattle.frame.proofs.Margins.{margins-meet}
+use Rattle.sheet.specs.Reading.{numberOf, sheetOf}
+use Rattle.sheet.specs.Frame.{frameOf}
+use Rattle.sheet.proofs.Apart.{cond-cases, accepted-ways, accepted-refused}
+use Rattle.measure.specs.declared.Measured.{Measured}
+use Rattle.measure.specs.Measure.{firstAbove, refusedAs, measuredAs, turnedAway, measureOf}
+use Rattle.measure.specs.Meaning.{Judged, Meaning}
+use Rattle.measure.proofs.Levels.{above-at, below-before, none-below, below-none}
+
+-- ---- the three ways of a list
+
+module _ (s : Sheet) (js : List ℕ) where
+  on-length : ¬ (length js ≡ s.jobs) → Judged s js (refusedAs 11 0 0)
+  on-length n =
+      record {
+        eleven = ((λ e. n), (λ h. refl));
+        twelve = ((λ e. absurd (omega (arith, e))), (λ h. absurd (n (h .0))));
+        place = λ e. absurd (omega (arith, e));
+        zeros = λ h. refl;
+        measured = ((λ e. absurd (omega (arith, e))), (λ h. absurd (n (h .size))));
+        met = λ e. absurd (omega (arith, e));
+      }
+
+  module _ (m : length js ≡ s.jobs) where
+    on-level : firstAbove s.levels js < length js → Judged s js (refusedAs 12 0 (firstAbove s.levels js))
+    on-level h =
+        let n : ¬ Below s.levels js = λ b. omega (arith, h, below-none s.levels js b) in
+        record {
+          eleven = ((λ e. absurd (omega (arith, e))), (λ o. absurd (o m)));
+          twelve = ((λ e. (m, n)), (λ o. refl));
+          place = λ e. (above-at s.levels js h, below-before s.levels js);
+          zeros = λ o. refl;
+          measured = ((λ e. absurd (omega (arith, e))), (λ o. absurd (n (o .below))));
+          met = λ e. absurd (omega (arith, e));
+        }
+
+    on-margins : length js ≤ firstAbove s.levels js → Judged s js (measuredAs (margins s js))
+    on-margins h =
+        let b = none-below s.levels js h in
+        record {
+          eleven = ((λ e. absurd (omega (arith, e))), (λ o. absurd (o m)));
+          twelve = ((λ e. absurd (omega (arith, e))), (λ o. absurd (o .1 b)));
+          place = λ e. absurd (omega (arith, e));
+          zeros = λ o. absurd (o refl);
+          measured = ((λ e. record { size = m; below = b }), (λ o. refl));
+          met = λ e. margins-meet s js;
+        }
+
+  judged : let place = firstAbove s.levels js in
+      Judged s js (cond (eqb (length js) s.jobs) (cond (ltb place (length js)) (refusedAs 12 0 place) (measuredAs (margins s js))) (refusedAs 11 0 0))
+  judged =
+      let place = firstAbove s.levels js in
+      cond-cases (Judged s js) (eqb (length js) s.jobs) _ _
+      (λ m. cond-cases (Judged s js) (ltb place (length js)) _ _ (λ h. on-level (eqb-true _ _ m) (ltb-true _ _ h)) (λ h. on-margins (eqb-true _ _ m) (ltb-false _ _ h)))
+      (λ m. on-length (eqb-false _ _ m))
+
+measure-means : (t js : List ℕ) → Meaning t js (measureOf t js)
+unfolding measureOf frameOf
+measure-means t js =
+    record {
+      fails = λ n. accepted-refused ((sheetOf t) .refusal) turnedAway _ n;
+      passes = λ e.
+          accepted-ways (Judged (frameOf (sheetOf t)) js) ((sheetOf t) .refusal) turnedAway _ (λ l h. absurd (omega (arith, l, ap numberOf e))) (λ z. judged (frameOf (sheetOf t)) js);
+    }
+
+-- Beside the equation, the words.
+pub means : {t js : List ℕ} {q : Measured} → q ≡ measureOf t js → (q ≡ measureOf t js) × Meaning t js q
+means {t} {js} e = (e, rw e (measure-means t js))
