@@ -72,7 +72,7 @@ extern "C" {
  */
 #define BEGBIJA_PLAN_TEXT_STACK 94208 /* 65,536 of them are the table */
 #define BEGBIJA_PLAN_STACK 21504
-#define BEGBIJA_MEASURE_STACK 28672
+#define BEGBIJA_MEASURE_STACK 21504
 #define BEGBIJA_NEED_STACK 21504
 
 /*
