@@ -2,8 +2,8 @@
  * Begbija: a proved frame planner for borehole loggers.
  *
  * A job sheet comes in as bytes; out comes one voltage level for each job: of the frames that keep a deadline, an energy budget
- * and a temperature limit, energy and temperature rounded up to the sheet's steps before each job, the one of least total time;
- * or a refusal. The README has the sheet's format, and what the steps cost. Link with -lbegbija (libbegbija.a).
+ * and a temperature limit, energy and temperature rounded up to the sheet's steps before each job, the one of least total time,
+ * and among equals the one that has the lower level where they first differ; or a refusal. The README has the sheet's format, and what the steps cost. Link with -lbegbija (libbegbija.a).
  *
  *     begbija_plan_text   plans a sheet and writes the plan as text; the table is inside the call
  *     begbija_plan        plans a sheet with a table that the caller lends: levels, and a reply with their figures
@@ -102,7 +102,7 @@ enum begbija_refusal {
     BEGBIJA_LIST_LEVEL = 12      /* measuring: a level that the sheet does not have (0, its first place in the list, from 0) */
 };
 
-/* What begbija_plan answers. Time, energy and temperatures are those of the frame as it will run, without rounding. */
+/* What begbija_plan answers. Time, energy and final temperature are those of the frame as it will run, without rounding. */
 struct begbija_reply {
     uint64_t refusal;     /* 0 for a plan, or one of begbija_refusal */
     uint64_t line;        /* line and */
@@ -136,7 +136,7 @@ struct begbija_margins {
 int64_t begbija_plan_text(const uint8_t *sheet, size_t sheet_len, uint8_t *text, size_t text_len);
 
 /*
- * Plans a sheet with a table that the caller lends. What table, levels and reply hold before does not matter.
+ * Plans a sheet with a table that the caller lends. What table and levels hold before does not matter.
  *
  * Returns 0 for a plan: one level for each job, in order, at the start of `levels`, nothing beyond. Otherwise returns minus a
  * refusal, 1 to 10, and leaves `levels` as it was. Every return writes all seven figures of `reply`.
@@ -159,8 +159,8 @@ int64_t begbija_measure(const uint8_t *sheet, size_t sheet_len, const uint8_t *l
                         struct begbija_margins *margins);
 
 /*
- * Returns how many words of table a sheet needs, also where they are more than BEGBIJA_TABLE_MAX (at most about 2^54), or minus
- * a refusal of the sheet, 1 to 6. A table of as many words is not refused by 8, one of a word less is.
+ * Returns how many words of table a sheet needs, also where they are more than BEGBIJA_TABLE_MAX (below 2^55), or minus a refusal
+ * of the sheet, 1 to 6. Up to BEGBIJA_TABLE_MAX, a table of as many words is not refused by 8, and one of a word less is.
  *
  * For m jobs and l levels, energy budget W with step g, temperature limit C with step h, let A = W / g rounded up, plus 1, and
  * B = C / h rounded up, plus 1: a sheet needs m * l * A * B words. So a board for known sheets has a table of the largest of

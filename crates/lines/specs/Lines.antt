@@ -1,5 +1,5 @@
 -- Lines of numbers and where their figures go (document 01, 'The sheet'): "l lines L, power P", "l × l lines S, time, energy of a
--- change", "l lines B, time, energy, decay".
+-- change", "l lines B, time .., energy .., decay ..".
 --
 -- The figures of a sheet stand in one store: 8 powers, 64 times and 64 energies of changes, 512 times, 512 energies and 512
 -- decays of jobs; rows of 8, by the level left or the job, and then by level.

@@ -11,7 +11,7 @@ use borrow.Author.Tests.{ltb-true, ltb-false, eqb-true, eqb-false}
 use Rattle.frame.specs.Sheet.{Sheet}
 use Rattle.frame.specs.Demands.{Below}
 use Rattle.frame.specs.Limits.{margins}
-use Rattle.frame.proofs.Margins.{margins-meet}
+use Rattle.frame.proofs.Margins.{margins-met, margins-meet}
 use Rattle.sheet.specs.Reading.{numberOf, sheetOf}
 use Rattle.sheet.specs.Frame.{frameOf}
 use Rattle.sheet.proofs.Apart.{cond-cases, accepted-ways, accepted-refused}
@@ -28,9 +28,14 @@ module _ (s : Sheet) (js : List ℕ) where
       record {
         eleven = ((λ e. n), (λ h. refl));
         twelve = ((λ e. absurd (omega (arith, e))), (λ h. absurd (n (h .0))));
-        place = λ e. absurd (omega (arith, e));
-        zeros = λ h. refl;
         measured = ((λ e. absurd (omega (arith, e))), (λ h. absurd (n (h .size))));
+        length-reply = λ e. refl;
+        level-reply = λ e. absurd (omega (arith, e));
+        level-place = λ e. absurd (omega (arith, e));
+        margins-reply = λ e. absurd (omega (arith, e));
+        time = λ e. absurd (omega (arith, e));
+        energy = λ e. absurd (omega (arith, e));
+        temperature = λ e. absurd (omega (arith, e));
         met = λ e. absurd (omega (arith, e));
       }
 
@@ -41,9 +46,14 @@ module _ (s : Sheet) (js : List ℕ) where
         record {
           eleven = ((λ e. absurd (omega (arith, e))), (λ o. absurd (o m)));
           twelve = ((λ e. (m, n)), (λ o. refl));
-          place = λ e. (above-at s.levels js h, below-before s.levels js);
-          zeros = λ o. refl;
           measured = ((λ e. absurd (omega (arith, e))), (λ o. absurd (n (o .below))));
+          length-reply = λ e. absurd (omega (arith, e));
+          level-reply = λ e. refl;
+          level-place = λ e. (above-at s.levels js h, below-before s.levels js);
+          margins-reply = λ e. absurd (omega (arith, e));
+          time = λ e. absurd (omega (arith, e));
+          energy = λ e. absurd (omega (arith, e));
+          temperature = λ e. absurd (omega (arith, e));
           met = λ e. absurd (omega (arith, e));
         }
 
@@ -53,9 +63,14 @@ module _ (s : Sheet) (js : List ℕ) where
         record {
           eleven = ((λ e. absurd (omega (arith, e))), (λ o. absurd (o m)));
           twelve = ((λ e. absurd (omega (arith, e))), (λ o. absurd (o .1 b)));
-          place = λ e. absurd (omega (arith, e));
-          zeros = λ o. absurd (o refl);
           measured = ((λ e. record { size = m; below = b }), (λ o. refl));
+          length-reply = λ e. absurd (omega (arith, e));
+          level-reply = λ e. absurd (omega (arith, e));
+          level-place = λ e. absurd (omega (arith, e));
+          margins-reply = λ e. refl;
+          time = λ e. margins-met s js .0;
+          energy = λ e. margins-met s js .1;
+          temperature = λ e. margins-met s js .2;
           met = λ e. margins-meet s js;
         }
 

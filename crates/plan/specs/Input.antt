@@ -12,7 +12,7 @@ abbrev pub Within : ℕ → Input → List ℕ → Type 0
 Within n (Bytes count) buffer = n + count ≤ length buffer
 Within n Unreadable buffer = Unit {0}
 
--- One read to place n of a buffer: what came before it stays, and what came stands behind it.
+-- One read to place n of a buffer: what came before it stays, and what came ends within the buffer.
 pub record More (old new : List ℕ) (n : ℕ) (r : Input) : Type 0 where
   pub kept : take n new ≡ take n old
   pub within : Within n r new

@@ -13,7 +13,7 @@ use Rattle.sheet.specs.Reading.{numberOf, lineOf, fieldOf, codeAs, sheetOf}
 use Rattle.sheet.specs.Frame.{frameOf}
 use Rattle.sheet.proofs.Apart.{Refuses, refuses-some, accepted-refused}
 use Rattle.planner.specs.Inner.{axesOf}
-use Rattle.planner.specs.Need.{needless, wordsOf}
+use Rattle.planner.specs.Need.{refusedNeed, wordsOf}
 use Rattle.planner.proofs.Replies.{need-small, need-is}
 
 -- A need fits a signed 64-bit number.
@@ -24,7 +24,7 @@ module _ (t : List ℕ) (r : Reading) (e : r ≡ sheetOf t) where
   pub words-refused : (c : RefusalCode) → Refuses (r .refusal) → c ≡ codeAs (numberOf (r .refusal)) (lineOf (r .refusal)) (fieldOf (r .refusal)) →
       record { refusal = c .number; words = 0 } ≡ wordsOf t
   unfolding wordsOf
-  words-refused c h k = rw (sym e, k) (sym (accepted-refused (r .refusal) needless _ (refuses-some (r .refusal) h)))
+  words-refused c h k = rw (sym e, k) (sym (accepted-refused (r .refusal) refusedNeed _ (refuses-some (r .refusal) h)))
 
   pub words-counted : r .refusal ≡ Nothing → (n : ℕ) → n ≡ need (frameOf r) → record { refusal = 0; words = n } ≡ wordsOf t
   unfolding wordsOf frameOf

@@ -10,9 +10,9 @@ use Rattle.sheet.specs.Frame.{frameOf}
 use Rattle.planner.specs.declared.Words.{Words}
 
 -- A sheet that is refused by 1 to 6 has no need.
-abbrev pub needless : Refusal → Words
-needless f = record { refusal = numberOf f; words = 0 }
+abbrev pub refusedNeed : Refusal → Words
+refusedNeed f = record { refusal = numberOf f; words = 0 }
 
 -- "The need is m × l × A × B words", of every sheet that 1 to 6 do not refuse, however many they are.
 unfoldable pub wordsOf : List ℕ → Words
-wordsOf t = let r : Reading = sheetOf t in accepted (r .refusal) needless (record { refusal = 0; words = need (frameOf r) })
+wordsOf t = let r : Reading = sheetOf t in accepted (r .refusal) refusedNeed (record { refusal = 0; words = need (frameOf r) })

@@ -1,5 +1,5 @@
 -- Numbers as the bytes of their digits (document 01, 'Units' and 'The sheet'). `value-back` in `proofs/Decimal.antt` shows that
--- the sheet's reader takes them for the same numbers.
+-- the sheet's reader takes them for the same numbers, below 10 ^ 10.
 -- Assumes nothing.
 use mathlib.Core.Bool.{cond}
 use mathlib.Core.List.{List, [], _∷_, _++_}
