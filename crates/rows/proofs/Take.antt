@@ -1,101 +1,89 @@
--- Laws of lines that are taken in one pass: the letter, one number more, and the last.
+-- Laws of lines that are taken in one pass: the letter, one number more, and the last; and what a sound line has at each of these
+-- steps.
 -- Assumes nothing.
-use mathlib.Core.Path.{_≡_, refl, ap, sym, _∙_}
-use mathlib.Core.Logic.{inr}
-use mathlib.Core.Bool.{true}
-use mathlib.Core.List.{List}
-use Prim.Native.Nat.{ℕ, _+_, _-_, _≤_, _<_}
+use mathlib.Core.Path.{_≡_, refl, ap, sym, subst, _∙_}
+use mathlib.Core.Bool.{Bool, true, false, cond}
+use mathlib.Core.List.{List, [], _∷_}
+use Prim.Native.Nat.{ℕ, zero, suc, _+_, _≤_, _<_, _^_}
+use native.Mathlib.Decide.{ℕ-discrete}
 use native.Mathlib.Omega.{arith}
-use lib.ListN.{length, getD, set, replicate}
-use borrow.Author.Tests.{eq-eqb}
-use Rattle.text.specs.Text.{part}
+use lib.Dec.{eqb, leb, ltb}
+use lib.ListN.{length, getD, set, replicate, drop, length-drop}
+use lib.Seq.{getD-take, getD-drop}
+use borrow.Author.Tests.{le-leb, leb-true, le-ltb, ltb-false, eq-eqb, ne-eqb, eqb-true}
+use Rattle.text.specs.Text.{before, until, beyond, ahead, count, part}
 use Rattle.text.specs.Line.{LineAt}
-use Rattle.text.specs.Take.{NumberAt, NameAt}
-use Rattle.text.proofs.Text.{Scanned, scanned-none, scanned-byte, scanned-tab, scanned-end}
-use Rattle.text.proofs.Scanned.{line-tabs}
-use Rattle.text.proofs.Take.{name-all, scanned-run, number-scanned, field-last, field-inner}
-use Rattle.rows.specs.declared.Fault.the-variants.{Sound}
-use Rattle.rows.specs.Row.{opens, numbersFrom, rowOf}
-use Rattle.rows.specs.Take.{Starts, NameLine}
-use Rattle.rows.proofs.Row.{opens-count, row-numbers, name-sound, numbers-on, numbers-end}
+use Rattle.text.specs.Number.{all, isNumber, valueFrom, isName}
+use Rattle.text.specs.Take.{takenAt, nameEnd}
+use Rattle.text.specs.declared.Taken.the-variants.{Number, Other}
+use Rattle.text.proofs.Text.{before-hit, before-pass, until-hit, until-pass, count-ahead, drop-here, before-le, length-until, ahead-lt}
+use Rattle.text.proofs.Number.{all-none, all-on}
+use Rattle.text.proofs.Take.{clash, cond-true, not-both, number-all, number-few, name-all, name-some, all-count, Onward, onward, first-field, one-field, Short, NumberAt, taken-so, name-so, name-taken}
+use Rattle.rows.specs.declared.Fault.{Fault}
+use Rattle.rows.specs.declared.Fault.the-variants.{Sound, Shape, Form, Range}
+use Rattle.rows.specs.Row.{Row, opens, numbersFrom, rowOf, nameFault}
+use Rattle.rows.specs.Take.{isSound, starts, isTaken, nameLineEnd}
+use Rattle.rows.proofs.Row.{opens-before, opens-tabs}
+use Rattle.rows.proofs.Within.{faulty, malformed, shapeless, passed}
+
+-- ---- what is taken
+
+pub sound-is : (f : Fault) → isSound f ≡ true → f ≡ Sound
+sound-is Sound e = refl
+sound-is Shape e = let z = clash (sym e) in absurd (omega arith)
+sound-is (Form k) e = let z = clash (sym e) in absurd (omega arith)
+sound-is (Range k) e = let z = clash (sym e) in absurd (omega arith)
+
+-- The text has its room at place p, and a line ends there and has no fault.
+pub record SoundAt (s : List ℕ) (p room : ℕ) (fault : List ℕ → Fault) : Type 0 where
+  pub within : p + room ≤ length s
+  pub ends : ahead 10 (drop p s) ≡ true
+  pub sound : fault (until 10 (drop p s)) ≡ Sound
+
+module _ (s : List ℕ) (p room : ℕ) (fault : List ℕ → Fault) where
+  pub sound-at : isTaken s p room fault ≡ true → SoundAt s p room fault
+  unfolding isTaken
+  sound-at e =
+      let a = cond-true (leb (p + room) (length s)) _ e in
+      let b = cond-true (ahead 10 (drop p s)) _ (a .1) in
+      record { within = leb-true _ _ (a .0); ends = b .0; sound = sound-is _ (b .1) }
+
+  pub sound-taken : SoundAt s p room fault → isTaken s p room fault ≡ true
+  unfolding isTaken
+  sound-taken z = rw (le-leb _ _ (z .within), z .ends, z .sound) refl
 
 -- ---- the letter
 
+-- From place p on the text s has `room` more bytes, and the first of them are the letter and a byte 9.
+pub record Starts (s : List ℕ) (p letter room : ℕ) : Type 0 where
+  pub within : p + room ≤ length s
+  pub first : getD s p 0 ≡ letter
+  pub second : getD s (p + 1) 0 ≡ 9
+
+module _ (s : List ℕ) (p letter room : ℕ) where
+  pub starts-is : starts s p letter room ≡ true → Starts s p letter room
+  unfolding starts
+  starts-is e =
+      let a = cond-true (leb (p + room) (length s)) _ e in
+      let b = cond-true (eqb (getD s p 0) letter) _ (a .1) in
+      record { within = leb-true _ _ (a .0); first = eqb-true _ _ (b .0); second = eqb-true _ _ (b .1) }
+
+  pub starts-so : Starts s p letter room → starts s p letter room ≡ true
+  unfolding starts
+  starts-so z = rw (le-leb _ _ (z .within), eq-eqb _ _ (z .first), eq-eqb _ _ (z .second)) refl
+
+  -- A line that opens with the letter and has fields behind it starts so.
+  pub opens-starts : (k : ℕ) → 0 < k → p + room ≤ length s → opens letter k (until 10 (drop p s)) ≡ true → starts s p letter room ≡ true
+  opens-starts k h l e = ?
+
 module _ {s : List ℕ} {from letter room : ℕ} (z : Starts s from letter room) (high : 65 ≤ letter) (two : 2 ≤ room) where
-  -- Its first two bytes.
-  starts-scanned : Scanned s from (from + 2) 1
-  starts-scanned =
-      let e : from + 2 ≡ from + 1 + 1 = omega arith in
-      let l = z .within in
-      let f = z .first in
-      rw e (scanned-tab s from (from + 1) 0
-      (scanned-byte s from from 0 (scanned-none s from (omega arith)) (omega arith) 0 refl (λ w. omega arith) (λ w. omega arith))
-      (omega arith) 1 refl (z .second))
+  starts-before : before 9 (drop from s) ≡ 1
+  starts-before = ?
 
-  -- A line that starts so and has k bytes 9.
-  starts-opens : (e k : ℕ) → from + 2 ≤ e → LineAt s from (record { end = e; tabs = k }) → opens letter k (part from e s) ≡ true
-  starts-opens e k h line =
-      opens-count s from e letter k (line .within) (omega arith) (z .first) high (inr (omega arith, z .second))
-      ∙ eq-eqb _ _ (sym (line-tabs line))
+  pub starts-onward : Onward s from (from + 2)
+  starts-onward = ?
 
-  -- A line J.
-  pub starts-name : letter ≡ 74 → (e : ℕ) → from + 2 < e → NameAt s (from + 2) e → NameLine s from e
-  starts-name j e h n =
-      let l = n .within in
-      let line =
-      scanned-end s from e 1
-      (scanned-run 33 126 s (omega arith) (e - (from + 2)) from (from + 2) e 1 (omega arith) (omega arith) (name-all _ (n .form)) starts-scanned)
-      l (n .ended) in
-      record {
-        line = line;
-        sound = sym (name-sound s from e (omega arith) (omega arith) (ap (λ (x : ℕ). opens x 1 (part from e s)) (sym j) ∙ starts-opens e 1 (omega arith) line) (n .form));
-        ended = l;
-      }
-
--- ---- numbers
-
--- The line at `from` starts with the letter, and j numbers of values vs follow, each in its range and with a byte 9 behind it;
--- the next field starts at place p.
-pub record Taking (s : List ℕ) (from letter room : ℕ) (los his : List ℕ) (j p : ℕ) (vs : List ℕ) : Type 0 where
-  pub starts : Starts s from letter room
-  pub start : from + 2 ≤ p
-  pub scanned : Scanned s from p (j + 1)
-  pub rest : (k to : ℕ) → j ≤ k → p ≤ to → to ≤ length s →
-      numbersFrom los his k 0 (part (from + 2) to s) (replicate 10 0) ≡ numbersFrom los his (k - j) j (part p to s) vs
-
-pub taking-none : (s : List ℕ) (from letter room : ℕ) (los his : List ℕ) → Starts s from letter room → 65 ≤ letter → 2 ≤ room →
-    Taking s from letter room los his 0 (from + 2) (replicate 10 0)
-taking-none s from letter room los his z high two =
-    record {
-      starts = z;
-      start = omega arith;
-      scanned = starts-scanned z high two;
-      rest = λ k to a b d. let e : k - 0 ≡ k = omega arith in rw e refl;
-    }
-
-module _ {s : List ℕ} {from letter room : ℕ} {los his : List ℕ} {j p : ℕ} {vs : List ℕ} (t : Taking s from letter room los his j p vs) {v e : ℕ} where
-  -- One number more.
-  pub taking-more : NumberAt s p 9 (getD los j 0) (getD his j 0) v e → Taking s from letter room los his (j + 1) (e + 1) (set vs j v)
-  taking-more z =
-      record {
-        starts = t .starts;
-        start = omega (arith, t .start, z .start);
-        scanned = scanned-tab s from e (j + 1) (number-scanned z from (j + 1) (t .scanned)) (z .within) (j + 1 + 1) refl (z .ended);
-        rest = λ k to a b d. t .rest k to (omega arith) (omega (arith, z .start)) d
-            ∙ numbers-on los his s to k j p vs (omega arith) v (e + 1) (field-inner z refl to (omega arith) d) (z .low) (z .high);
-      }
-
-  -- The last number, and with it the line.
-  module _ (z : NumberAt s p 10 (getD los j 0) (getD his j 0) v e) where
-    pub taking-line : LineAt s from (record { end = e; tabs = j + 1 })
-    taking-line = scanned-end s from e (j + 1) (number-scanned z from (j + 1) (t .scanned)) (z .within) (z .ended)
-
-    pub taking-row : 65 ≤ letter → 2 ≤ room →
-        record { fault = Sound; values = set vs j v; rest = part (e + 1) e s } ≡ rowOf letter (j + 1) los his (part from e s)
-    taking-row high two =
-        let h : from + 2 ≤ e = omega (arith, t .start, z .start) in
-        let l : e ≤ length s = omega (arith, z .within) in
-        row-numbers s from e letter (j + 1) los his (omega arith) l _ (starts-opens (t .starts) high two e (j + 1) h taking-line)
-        (sym (t .rest (j + 1) e (omega arith) (z .start) l
-        ∙ numbers-on los his s e (j + 1) j p vs (omega arith) v (e + 1) (field-last z) (z .low) (z .high)
-        ∙ numbers-end los his (part (e + 1) e s) (set vs j v) (j + 1) (j + 1) (omega arith)))
+  -- The line's count of fields says whether it opens so.
+  starts-opens : (k : ℕ) → opens letter (suc k) (until 10 (drop from s)) ≡ eqb (count 9 (until 10 (drop (from + 2) s))) k
+  unfolding opens
+  starts-opens k = ?

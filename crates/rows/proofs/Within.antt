@@ -31,12 +31,12 @@ pub shapeless : Shape ≡ Sound → ⊥
 shapeless e = let z : _≡_ {A = ℕ} 0 1 = cc in omega arith
 
 -- The tests of one number, all passed.
-passed : (a b c : Bool) (form range next : Row) → (form .fault ≡ Sound → ⊥) → (range .fault ≡ Sound → ⊥) →
+pub passed : (a b c : Bool) (form range next : Row) → (form .fault ≡ Sound → ⊥) → (range .fault ≡ Sound → ⊥) →
     (cond a (cond b range (cond c range next)) form) .fault ≡ Sound →
-    (b ≡ false) × (c ≡ false) × (cond a (cond b range (cond c range next)) form ≡ next)
+    (a ≡ true) × (b ≡ false) × (c ≡ false) × (cond a (cond b range (cond c range next)) form ≡ next)
 passed true true c form range next f r e = absurd (r e)
 passed true false true form range next f r e = absurd (r e)
-passed true false false form range next f r e = (refl, refl, refl)
+passed true false false form range next f r e = (refl, refl, refl, refl)
 passed false b c form range next f r e = absurd (f e)
 
 -- Numbers j to j + n - 1 of `values` lie in their ranges, and the others are those of `vs`.
@@ -83,11 +83,11 @@ module _ (los his : List ℕ) where
       let v = valueFrom 0 (until 9 t) in
       let p = passed (isNumber (until 9 t)) (ltb v (getD los j 0)) (ltb (getD his j 0) v) _ _ _ (malformed (j + 2)) (faulty (j + 2)) e in
       let m = length-set vs j v in
-      let h = numbers-held n (j + 1) (beyond 9 t) (set vs j v) (omega arith) (ap (λ (r : Row). r .fault) (sym (p .2)) ∙ e) in
+      let h = numbers-held n (j + 1) (beyond 9 t) (set vs j v) (omega arith) (ap (λ (r : Row). r .fault) (sym (p .3)) ∙ e) in
       subst
       (λ (values : List ℕ). Held los his (suc n) j vs values)
-      (ap (λ (r : Row). r .values) (sym (p .2)))
-      (held-more n j v vs _ l (ltb-false _ _ (p .0)) (ltb-false _ _ (p .1)) h)
+      (ap (λ (r : Row). r .values) (sym (p .3)))
+      (held-more n j v vs _ l (ltb-false _ _ (p .1)) (ltb-false _ _ (p .2)) h)
 
 -- The numbers of a sound line of a letter and k numbers.
 pub row-held : (letter k : ℕ) (los his line : List ℕ) → k ≤ 10 → (rowOf letter k los his line) .fault ≡ Sound →

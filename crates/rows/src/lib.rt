@@ -1,10 +1,9 @@
 ghost use mathlib.Core.Path.{_≡_};
-ghost use mathlib.Core.Bool.{true};
-ghost use Prim.Native.Nat.{_+_, _-_, _≤_, _<_};
+ghost use Prim.Native.Nat.{_+_, _-_, _≤_};
 ghost use lib.ListN.{length};
 ghost use Rattle.text.specs.Text.{part, count};
 ghost use Rattle.rows.specs.Row.{opens, numbersFrom, numbersIn, rowOf, nameFault};
-ghost use Rattle.rows.specs.Take.{Starts, NameLine};
+ghost use Rattle.rows.specs.Take.{starts, nameLineEnd};
 use text::Field;
 
 // What is wrong with a line: nothing, its letter or its count of fields, a field's form, or a field's range.
@@ -136,7 +135,7 @@ pub fn check_name(s: &[u8], from: usize, to: usize, tabs: usize) -> Fault
 // Whether the text goes on for `room` bytes from `from` on, and starts there with the letter and a byte 9.
 pub fn starts_with(s: &[u8], from: usize, letter: u8, room: usize) -> bool
     requires { ⌜ (from ≤ length (now s)) × (2 ≤ room) ⌝ }
-    ensures { λ r. ⌜ (r ≡ true → Starts (now (s .entry)) from letter room) ⌝ }
+    ensures { λ r. ⌜ r ≡ starts (now (s .entry)) from letter room ⌝ }
 {
     if s.len() - from < room {
         return false;
@@ -150,7 +149,7 @@ pub fn starts_with(s: &[u8], from: usize, letter: u8, room: usize) -> bool
 // Takes a line J: where it ends, or `from`.
 pub fn take_name(s: &[u8], from: usize) -> usize
     requires { ⌜ from ≤ length (now s) ⌝ }
-    ensures { λ r. ⌜ (from < r → NameLine (now (s .entry)) from r) ⌝ }
+    ensures { λ r. ⌜ r ≡ nameLineEnd (now (s .entry)) from ⌝ }
 {
     if !starts_with(s, from, b'J', 19) {
         return from;

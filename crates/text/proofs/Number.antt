@@ -37,6 +37,10 @@ all-none lo hi = refl
 
 -- ---- a name, by places
 
+pub name-form : (t : List ℕ) → 0 < length t → length t ≤ 16 → isName t ≡ all 33 126 t
+unfolding isName
+name-form t h k = simp (ne-eqb (length t) 0 (λ e. omega arith), le-ltb 16 (length t) k)
+
 module _ (s : List ℕ) (from to : ℕ) (k : to ≤ length s) where
   pub name-empty : from ≡ to → isName (part from to s) ≡ false
   unfolding isName
@@ -49,10 +53,7 @@ module _ (s : List ℕ) (from to : ℕ) (k : to ≤ length s) where
       simp (ne-eqb (length (part from to s)) 0 (λ e. omega arith), lt-ltb 16 (length (part from to s)) (omega arith))
 
   pub name-bytes : from < to → to - from ≤ 16 → isName (part from to s) ≡ all 33 126 (part from to s)
-  unfolding isName
-  name-bytes h m =
-      let l = length-part from to s k in
-      simp (ne-eqb (length (part from to s)) 0 (λ e. omega arith), le-ltb 16 (length (part from to s)) (omega arith))
+  name-bytes h m = let l = length-part from to s k in name-form (part from to s) (omega arith) (omega arith)
 
 module _ (lo hi : ℕ) (s : List ℕ) (i to : ℕ) (h : i < to) (k : to ≤ length s) where
   pub part-low : getD s i 0 < lo → all lo hi (part i to s) ≡ false
@@ -88,10 +89,10 @@ module _ (t : List ℕ) where
   unfolding isNumber
   number-long h = simp (ne-eqb (length t) 0 (λ e. omega arith), lt-ltb 10 (length t) h)
 
-  pub number-zero : 1 < length t → length t ≤ 10 → getD t 0 0 ≡ 48 → isNumber t ≡ false
+  pub number-zero : 1 < length t → getD t 0 0 ≡ 48 → isNumber t ≡ false
   unfolding isNumber leadingZero
-  number-zero h k e =
-      simp (ne-eqb (length t) 0 (λ z. omega arith), le-ltb 10 (length t) k, lt-ltb 1 (length t) h, eq-eqb (getD t 0 0) 48 e)
+  number-zero h e =
+      simp (ne-eqb (length t) 0 (λ z. omega arith), lt-ltb 1 (length t) h, eq-eqb (getD t 0 0) 48 e) (cond-false (ltb 10 (length t)))
 
   no-zero : (length t ≤ 1) ⊎ (getD t 0 0 ≡ 48 → ⊥) → leadingZero t ≡ false
   unfolding leadingZero
@@ -109,119 +110,126 @@ module _ (t : List ℕ) where
   unfolding isNumber
   number-other e = rw e (other (eqb (length t) 0) (ltb 10 (length t)) (leadingZero t))
 
--- Of the field that starts at `from` in a line that ends at `to`, digits of value v stand before place i.
-pub record Digits (s : List ℕ) (from to i v : ℕ) : Type 0 where
+-- Of the field that starts at `from` in a line that ends at `to` and that a byte b ends, digits of value v stand before place i.
+pub record Digits (b : ℕ) (s : List ℕ) (from to i v : ℕ) : Type 0 where
   pub start : from ≤ i
   pub within : i ≤ to + 1
   pub inside : from ≤ to → i ≤ to
   pub long : to ≤ length s
   pub few : i - from ≤ 10
   pub value : v < 10 ^ (i - from)
-  pub rest : all 48 57 (until 9 (part from to s)) ≡ all 48 57 (until 9 (part i to s))
-  pub sum : valueFrom 0 (until 9 (part from to s)) ≡ valueFrom v (until 9 (part i to s))
-  pub size : length (until 9 (part from to s)) ≡ (i - from) + length (until 9 (part i to s))
-
-pub digits-none : (s : List ℕ) (from to : ℕ) → from ≤ to + 1 → to ≤ length s → Digits s from to from 0
-digits-none s from to h k =
-    let z : from - from ≡ 0 = omega arith in
-    record {
-      start = omega arith;
-      within = h;
-      inside = λ l. l;
-      long = k;
-      few = omega arith;
-      value = rw z (omega arith);
-      rest = refl;
-      sum = refl;
-      size = omega arith;
-    }
+  pub rest : all 48 57 (until b (part from to s)) ≡ all 48 57 (until b (part i to s))
+  pub sum : valueFrom 0 (until b (part from to s)) ≡ valueFrom v (until b (part i to s))
+  pub size : length (until b (part from to s)) ≡ (i - from) + length (until b (part i to s))
 
 -- One digit more.
 pow-more : (v d k : ℕ) → v < 10 ^ k → d < 10 → v * 10 + d < 10 ^ suc k
 pow-more v d k h g = rw pow-suc (omega arith)
 
-pub digits-value : (s : List ℕ) (from to i v : ℕ) → Digits s from to i v → (n : ℕ) → i - from ≤ n → v < 10 ^ n
-digits-value s from to i v z n h = omega (arith, z .value, pow-le-pow-right {n = 10} (omega arith) h)
-
-module _ (s : List ℕ) (from to i v : ℕ) (z : Digits s from to i v) (h : i < to) where
-  -- The field at a byte that is not its end.
-  here : (getD s i 0 ≡ 9 → ⊥) → until 9 (part i to s) ≡ getD s i 0 ∷ until 9 (part (i + 1) to s)
-  here n = ap (until 9) (part-here i to s h (z .long)) ∙ until-pass 9 (getD s i 0) (part (i + 1) to s) n
-
-  pub digits-low : (getD s i 0 ≡ 9 → ⊥) → getD s i 0 < 48 → fieldAt from (part from to s) ≡ Malformed
-  unfolding fieldAt
-  digits-low n b =
-      rw (number-other (until 9 (part from to s)) (z .rest ∙ ap (all 48 57) (here n) ∙ all-low 48 57 _ _ b)) refl
-
-  pub digits-high : (getD s i 0 ≡ 9 → ⊥) → 48 ≤ getD s i 0 → 57 < getD s i 0 → fieldAt from (part from to s) ≡ Malformed
-  unfolding fieldAt
-  digits-high n a b =
-      rw (number-other (until 9 (part from to s)) (z .rest ∙ ap (all 48 57) (here n) ∙ all-high 48 57 _ _ a b)) refl
-
-  pub digits-long : (getD s i 0 ≡ 9 → ⊥) → 10 ≤ i - from → fieldAt from (part from to s) ≡ Malformed
-  unfolding fieldAt
-  digits-long n l =
-      rw (number-long (until 9 (part from to s)) (omega (arith, z .size, ap length (here n)))) refl
-
-  pub digits-more : (w : ℕ) → w ≡ v * 10 + (getD s i 0 - 48) → (getD s i 0 ≡ 9 → ⊥) → 48 ≤ getD s i 0 → getD s i 0 ≤ 57 → i - from < 10 → Digits s from to (i + 1) w
-  unfolding valueFrom
-  digits-more w q n a b l =
-      let e : i + 1 - from ≡ suc (i - from) = omega (arith, z .start) in
+module _ (b : ℕ) (s : List ℕ) (from to : ℕ) where
+  pub digits-none : from ≤ to + 1 → to ≤ length s → Digits b s from to from 0
+  digits-none h k =
+      let z : from - from ≡ 0 = omega arith in
       record {
-        start = omega (arith, z .start);
-        within = omega arith;
-        inside = λ _. omega arith;
-        long = z .long;
-        few = omega (arith, z .start);
-        value = rw (q, e) (pow-more v (getD s i 0 - 48) (i - from) (z .value) (omega arith));
-        rest = z .rest ∙ ap (all 48 57) (here n) ∙ all-on 48 57 _ _ a b;
-        sum = z .sum ∙ ap (valueFrom v) (here n) ∙ ap (λ (x : ℕ). valueFrom x (until 9 (part (i + 1) to s))) (sym q);
-        size = omega (arith, z .size, z .start, ap length (here n));
+        start = omega arith;
+        within = h;
+        inside = λ l. l;
+        long = k;
+        few = omega arith;
+        value = rw z (omega arith);
+        rest = refl;
+        sum = refl;
+        size = omega arith;
       }
 
--- The field ends at place i: at the line's end, or at a byte 9.
-pub ends-line : (s : List ℕ) (i to : ℕ) → to ≤ i → until 9 (part i to s) ≡ []
-ends-line s i to h = ap (until 9) (part-none i to s h) ∙ until-none 9
+  module _ (i v : ℕ) (z : Digits b s from to i v) where
+    pub digits-value : (n : ℕ) → i - from ≤ n → v < 10 ^ n
+    digits-value n h = omega (arith, z .value, pow-le-pow-right {n = 10} (omega arith) h)
 
-pub ends-field : (s : List ℕ) (i to : ℕ) → i < to → to ≤ length s → getD s i 0 ≡ 9 → until 9 (part i to s) ≡ []
-ends-field s i to h k e = ap (until 9) (part-here i to s h k) ∙ until-hit 9 (getD s i 0) (part (i + 1) to s) e
+    -- The first byte.
+    first : from < i → getD (until b (part from to s)) 0 0 ≡ getD s from 0
+    unfolding until
+    first l =
+        let n : from ≤ to = omega (arith, z .within) in
+        let m = z .inside n in
+        let h : 0 < before b (part from to s) = omega (arith, z .size, length-until b (part from to s)) in
+        getD-take _ _ 0 0 h ∙ ap (λ (t : List ℕ). getD t 0 0) (part-here from to s (omega arith) (z .long))
 
-module _ (s : List ℕ) (from to i v : ℕ) (z : Digits s from to i v) (e : until 9 (part i to s) ≡ []) where
-  size-is : length (until 9 (part from to s)) ≡ i - from
-  size-is = omega (arith, z .size, ap length e)
+    pub digits-zero : 1 < i - from → getD s from 0 ≡ 48 → isNumber (until b (part from to s)) ≡ false
+    digits-zero l q = number-zero (until b (part from to s)) (omega (arith, z .size)) (first (omega arith) ∙ q)
 
-  pub field-empty : i ≡ from → fieldAt from (part from to s) ≡ Malformed
-  unfolding fieldAt
-  field-empty q = rw (number-empty (until 9 (part from to s)) (omega (arith, size-is))) refl
+    module _ (h : i < to) (n : getD s i 0 ≡ b → ⊥) where
+      -- The field at a byte that is not its end.
+      here : until b (part i to s) ≡ getD s i 0 ∷ until b (part (i + 1) to s)
+      here = ap (until b) (part-here i to s h (z .long)) ∙ until-pass b (getD s i 0) (part (i + 1) to s) n
 
-  first : from < i → getD (until 9 (part from to s)) 0 0 ≡ getD s from 0
-  unfolding until
-  first l =
-      let n : from ≤ to = omega (arith, z .within) in
-      let m = z .inside n in
-      let b : 0 < before 9 (part from to s) = omega (arith, size-is, length-until 9 (part from to s)) in
-      getD-take _ _ 0 0 b ∙ ap (λ (t : List ℕ). getD t 0 0) (part-here from to s (omega arith) (z .long))
+      pub digits-low : getD s i 0 < 48 → isNumber (until b (part from to s)) ≡ false
+      digits-low a = number-other (until b (part from to s)) (z .rest ∙ ap (all 48 57) here ∙ all-low 48 57 _ _ a)
 
-  pub field-zero : 1 < i - from → getD s from 0 ≡ 48 → fieldAt from (part from to s) ≡ Malformed
-  unfolding fieldAt
-  field-zero l q =
-      rw (number-zero (until 9 (part from to s)) (omega (arith, size-is)) (omega (arith, size-is, z .few)) (first (omega arith) ∙ q)) refl
+      pub digits-high : 48 ≤ getD s i 0 → 57 < getD s i 0 → isNumber (until b (part from to s)) ≡ false
+      digits-high a c = number-other (until b (part from to s)) (z .rest ∙ ap (all 48 57) here ∙ all-high 48 57 _ _ a c)
 
-  pub field-form : from < i → (i - from ≤ 1) ⊎ (getD s from 0 ≡ 48 → ⊥) → isNumber (until 9 (part from to s)) ≡ true
-  field-form l c =
-      let d : (length (until 9 (part from to s)) ≤ 1) ⊎ (getD (until 9 (part from to s)) 0 0 ≡ 48 → ⊥) =
-      ⊎-elim (λ (h : i - from ≤ 1). inl (omega (arith, size-is))) (λ (m : getD s from 0 ≡ 48 → ⊥). inr (λ q. m (sym (first l) ∙ q))) c in
-      number-digits (until 9 (part from to s)) (omega (arith, size-is)) (omega (arith, size-is, z .few)) d
-      ∙ z .rest
-      ∙ ap (all 48 57) e
-      ∙ all-none 48 57
+      -- The field is longer than its digits so far.
+      pub digits-longer : i - from < length (until b (part from to s))
+      digits-longer = omega (arith, z .size, ap length here)
 
-  pub field-value : valueFrom 0 (until 9 (part from to s)) ≡ v
-  unfolding valueFrom
-  field-value = z .sum ∙ ap (valueFrom v) e
+      pub digits-long : 10 ≤ i - from → isNumber (until b (part from to s)) ≡ false
+      digits-long l = number-long (until b (part from to s)) (omega (arith, digits-longer))
 
-  pub field-number : (i ≡ from → ⊥) → (i - from ≤ 1) ⊎ (getD s from 0 ≡ 48 → ⊥) → fieldAt from (part from to s) ≡ Number v (i + 1)
-  unfolding fieldAt
-  field-number n c =
-      let p : from + before 9 (part from to s) + 1 ≡ i + 1 = omega (arith, size-is, length-until 9 (part from to s)) in
-      rw (field-form (omega (arith, z .start, n)) c, field-value, p) refl
+      pub digits-more : (w : ℕ) → w ≡ v * 10 + (getD s i 0 - 48) → 48 ≤ getD s i 0 → getD s i 0 ≤ 57 → i - from < 10 → Digits b s from to (i + 1) w
+      unfolding valueFrom
+      digits-more w q a c l =
+          let e : i + 1 - from ≡ suc (i - from) = omega (arith, z .start) in
+          record {
+            start = omega (arith, z .start);
+            within = omega arith;
+            inside = λ _. omega arith;
+            long = z .long;
+            few = omega (arith, z .start);
+            value = rw (q, e) (pow-more v (getD s i 0 - 48) (i - from) (z .value) (omega arith));
+            rest = z .rest ∙ ap (all 48 57) here ∙ all-on 48 57 _ _ a c;
+            sum = z .sum ∙ ap (valueFrom v) here ∙ ap (λ (x : ℕ). valueFrom x (until b (part (i + 1) to s))) (sym q);
+            size = omega (arith, z .size, z .start, ap length here);
+          }
+
+    -- The field ends at place i.
+    module _ (e : until b (part i to s) ≡ []) where
+      pub digits-size : length (until b (part from to s)) ≡ i - from
+      digits-size = omega (arith, z .size, ap length e)
+
+      pub digits-empty : i ≡ from → isNumber (until b (part from to s)) ≡ false
+      digits-empty q = number-empty (until b (part from to s)) (omega (arith, digits-size))
+
+      pub digits-form : from < i → (i - from ≤ 1) ⊎ (getD s from 0 ≡ 48 → ⊥) → isNumber (until b (part from to s)) ≡ true
+      digits-form l c =
+          let d : (length (until b (part from to s)) ≤ 1) ⊎ (getD (until b (part from to s)) 0 0 ≡ 48 → ⊥) =
+          ⊎-elim (λ (h : i - from ≤ 1). inl (omega (arith, digits-size))) (λ (m : getD s from 0 ≡ 48 → ⊥). inr (λ q. m (sym (first l) ∙ q))) c in
+          number-digits (until b (part from to s)) (omega (arith, digits-size)) (omega (arith, digits-size, z .few)) d
+          ∙ z .rest
+          ∙ ap (all 48 57) e
+          ∙ all-none 48 57
+
+      pub digits-sum : valueFrom 0 (until b (part from to s)) ≡ v
+      unfolding valueFrom
+      digits-sum = z .sum ∙ ap (valueFrom v) e
+
+-- A byte b is at place i, or the line's end.
+pub ends-line : (b : ℕ) (s : List ℕ) (i to : ℕ) → to ≤ i → until b (part i to s) ≡ []
+ends-line b s i to h = ap (until b) (part-none i to s h) ∙ until-none b
+
+pub ends-field : (b : ℕ) (s : List ℕ) (i to : ℕ) → i < to → to ≤ length s → getD s i 0 ≡ b → until b (part i to s) ≡ []
+ends-field b s i to h k e = ap (until b) (part-here i to s h k) ∙ until-hit b (getD s i 0) (part (i + 1) to s) e
+
+-- ---- a field
+
+pub field-other : (p : ℕ) (t : List ℕ) → isNumber (until 9 t) ≡ false → fieldAt p t ≡ Malformed
+unfolding fieldAt
+field-other p t e = rw e refl
+
+pub field-number : (s : List ℕ) (from to i v : ℕ) → Digits 9 s from to i v → until 9 (part i to s) ≡ [] → (i ≡ from → ⊥) →
+    (i - from ≤ 1) ⊎ (getD s from 0 ≡ 48 → ⊥) → fieldAt from (part from to s) ≡ Number v (i + 1)
+unfolding fieldAt
+field-number s from to i v z e n c =
+    let p : from + before 9 (part from to s) + 1 ≡ i + 1 =
+    omega (arith, z .start, digits-size 9 s from to i v z e, length-until 9 (part from to s)) in
+    rw (digits-form 9 s from to i v z e (omega (arith, z .start, n)) c, digits-sum 9 s from to i v z e, p) refl

@@ -3,14 +3,14 @@
 use mathlib.Core.Path.{_≡_, refl, ap, sym, _∙_}
 use mathlib.Core.Bool.{true, false}
 use mathlib.Core.List.{List}
-use Prim.Native.Nat.{ℕ, suc, _+_, _-_, _≤_, _<_}
+use Prim.Native.Nat.{ℕ, _+_, _-_, _≤_, _<_}
 use native.Mathlib.Omega.{arith}
 use lib.ListN.{length, drop, length-drop}
-use lib.Seq.{drop-drop}
 use borrow.Author.Tests.{lt-ltb, le-ltb}
 use Rattle.text.specs.Text.{before, until, beyond, ahead, count, part}
 use Rattle.text.specs.Line.{LineAt}
 use Rattle.text.specs.declared.Line.{Line}
+use Rattle.text.proofs.Text.{beyond-drop}
 
 module _ {s : List ℕ} {p : ℕ} {r : Line} (z : LineAt s p r) where
   pub line-part : part p (r .end) s ≡ until 10 (drop p s)
@@ -32,7 +32,4 @@ module _ {s : List ℕ} {p : ℕ} {r : Line} (z : LineAt s p r) where
   line-missing h k = le-ltb (before 10 (drop p s)) (length (drop p s)) (omega (arith, z .end, length-drop p s))
 
   pub line-beyond : beyond 10 (drop p s) ≡ drop (r .end + 1) s
-  unfolding beyond
-  line-beyond =
-      let n : p + suc (before 10 (drop p s)) ≡ r .end + 1 = omega (arith, z .end) in
-      drop-drop (suc (before 10 (drop p s))) p s ∙ ap (λ (i : ℕ). drop i s) n
+  line-beyond = beyond-drop 10 p s ∙ ap (λ (i : ℕ). drop (i + 1) s) (sym (z .end))

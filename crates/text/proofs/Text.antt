@@ -1,6 +1,7 @@
 -- Laws of lines and fields: by the first byte of a text, and by places of a longer one.
 -- Assumes nothing.
 use mathlib.Core.Path.{_≡_, refl, ap, _∙_}
+use mathlib.Core.Bool.{true}
 use mathlib.Core.List.{List, [], _∷_}
 use Prim.Native.Nat.{ℕ, zero, suc, _+_, _-_, _≤_, _<_}
 use native.Mathlib.Nat.{sub-zero, zero-sub, suc-sub-suc}
@@ -8,10 +9,10 @@ use native.Mathlib.Decide.{ℕ-discrete}
 use native.Mathlib.Numerals.{add-one}
 use native.Mathlib.Omega.{arith}
 use lib.ListN.{length, getD, take, drop, length-take, length-drop}
-use lib.Seq.{drop-cons, take-nil, drop-drop}
-use borrow.Author.Tests.{eq-eqb, ne-eqb}
+use lib.Seq.{drop-cons, take-nil, take-all, drop-drop}
+use borrow.Author.Tests.{ltb-true, eq-eqb, ne-eqb}
 use Rattle.text.specs.Line.{LineAt}
-use Rattle.text.specs.Text.{before, until, beyond, count, part}
+use Rattle.text.specs.Text.{before, until, beyond, ahead, count, part}
 
 -- ---- by the first byte
 
@@ -31,6 +32,14 @@ module _ (b c : ℕ) (t : List ℕ) where
   pub until-pass : (c ≡ b → ⊥) → until b (c ∷ t) ≡ c ∷ until b t
   unfolding until
   until-pass n = rw (before-pass n) refl
+
+  pub beyond-hit : c ≡ b → beyond b (c ∷ t) ≡ t
+  unfolding beyond
+  beyond-hit e = rw (before-hit e) refl
+
+  pub beyond-pass : (c ≡ b → ⊥) → beyond b (c ∷ t) ≡ beyond b t
+  unfolding beyond
+  beyond-pass n = rw (before-pass n) refl
 
   pub count-hit : c ≡ b → count b (c ∷ t) ≡ suc (count b t)
   unfolding count
@@ -74,6 +83,11 @@ part-here a e s h k =
     let l : a < length s = omega arith in
     rw (z, drop-here s a)
 
+-- The part up to the end of the text.
+pub part-all : (a : ℕ) (s : List ℕ) → part a (length s) s ≡ drop a s
+unfolding part
+part-all a s = take-all (length s - a) (drop a s) (omega (arith, length-drop a s))
+
 pub length-part : (a e : ℕ) (s : List ℕ) → e ≤ length s → length (part a e s) ≡ e - a
 unfolding part
 length-part a e s k = simp (length-take, length-drop) (omega arith)
@@ -95,6 +109,12 @@ beyond-part b p e s =
     let z : p + suc (before b (part p e s)) ≡ p + before b (part p e s) + 1 = omega arith in
     drop-part (suc (before b (part p e s))) p e s ∙ ap (λ (n : ℕ). part n e s) z
 
+pub beyond-drop : (b p : ℕ) (s : List ℕ) → beyond b (drop p s) ≡ drop (p + before b (drop p s) + 1) s
+unfolding beyond
+beyond-drop b p s =
+    let z : p + suc (before b (drop p s)) ≡ p + before b (drop p s) + 1 = omega arith in
+    drop-drop (suc (before b (drop p s))) p s ∙ ap (λ (n : ℕ). drop n s) z
+
 pub before-le : (b : ℕ) (t : List ℕ) → before b t ≤ length t
 unfolding before
 before-le b [] = omega arith
@@ -107,6 +127,10 @@ before-le b (c ∷ t) =
 pub length-until : (b : ℕ) (t : List ℕ) → length (until b t) ≡ before b t
 unfolding until
 length-until b t = let h = before-le b t in simp length-take (omega arith)
+
+pub ahead-lt : (b : ℕ) (t : List ℕ) → ahead b t ≡ true → before b t < length t
+unfolding ahead
+ahead-lt b t e = ltb-true _ _ e
 
 -- Where there is a byte b, one is ahead.
 pub count-ahead : (b : ℕ) (t : List ℕ) → 0 < count b t → before b t < length t

@@ -1,33 +1,31 @@
--- What is known of a number or a name that was taken in one pass over its bytes.
+-- What is taken in one pass over its bytes: a number, or a name.
 -- Assumes nothing.
-use mathlib.Core.Path.{_≡_}
-use mathlib.Core.Bool.{true}
+use mathlib.Core.Bool.{Bool, false, cond}
 use mathlib.Core.List.{List}
-use Prim.Native.Nat.{ℕ, _+_, _≤_, _<_}
-use lib.ListN.{length, getD}
-use Rattle.text.specs.Text.{part}
+use Prim.Native.Nat.{ℕ, _+_}
+use lib.Dec.{leb}
+use lib.ListN.{length, drop}
+use Rattle.text.specs.Text.{until, ahead}
 use Rattle.text.specs.Number.{isNumber, valueFrom, isName}
 use Rattle.text.specs.declared.Taken.{Taken}
 use Rattle.text.specs.declared.Taken.the-variants.{Number, Other}
 
--- In the text s the number v stands from place p up to place e, where a byte `stop` is; it lies from lo to hi.
-pub record NumberAt (s : List ℕ) (p stop lo hi v e : ℕ) : Type 0 where
-  pub form : isNumber (part p e s) ≡ true
-  pub value : v ≡ valueFrom 0 (part p e s)
-  pub low : lo ≤ v
-  pub high : v ≤ hi
-  pub start : p ≤ e
-  pub short : e ≤ p + 8
-  pub within : e < length s
-  pub ended : getD s e 0 ≡ stop
+-- A number from lo to hi of at most 8 digits.
+unfoldable pub isShort : ℕ → ℕ → List ℕ → Bool
+isShort lo hi t =
+    let v : ℕ = valueFrom 0 t in
+    cond (isNumber t) (cond (leb (length t) 8) (cond (leb lo v) (leb v hi) false) false) false
 
--- A number was taken, or nothing is known.
-abbrev pub TakenAt : List ℕ → ℕ → ℕ → ℕ → ℕ → Taken → Type 0
-TakenAt s p stop lo hi (Number v e) = NumberAt s p stop lo hi v e
-TakenAt s p stop lo hi Other = Unit {0}
+-- What is taken of the text s at place p: the bytes before the next byte `stop`, where there is one and they are such a number,
+-- with the place of that byte.
+unfoldable pub takenAt : List ℕ → ℕ → ℕ → ℕ → ℕ → Taken
+takenAt s p stop lo hi =
+    let t : List ℕ = until stop (drop p s) in
+    cond (ahead stop (drop p s)) (cond (isShort lo hi t) (Number (valueFrom 0 t) (p + length t)) Other) Other
 
--- In the text s a name stands from place p up to place e, where a byte 10 is.
-pub record NameAt (s : List ℕ) (p e : ℕ) : Type 0 where
-  pub form : isName (part p e s) ≡ true
-  pub within : e < length s
-  pub ended : getD s e 0 ≡ 10
+-- The end of the name that is taken of the text s at place p: the bytes before the next byte 10, where there is one and they are
+-- a name; p where none is taken.
+unfoldable pub nameEnd : List ℕ → ℕ → ℕ
+nameEnd s p =
+    let t : List ℕ = until 10 (drop p s) in
+    cond (ahead 10 (drop p s)) (cond (isName t) (p + length t) p) p

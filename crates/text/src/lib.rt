@@ -4,7 +4,7 @@ ghost use lib.ListN.{length, getD};
 ghost use Rattle.text.specs.Text.{before, part};
 ghost use Rattle.text.specs.Line.{LineAt};
 ghost use Rattle.text.specs.Number.{fieldAt, isName};
-ghost use Rattle.text.specs.Take.{TakenAt, NameAt};
+ghost use Rattle.text.specs.Take.{takenAt, nameEnd};
 
 // Where a line ends, at its byte 10 or at the end of the text, and how many bytes 9 it has.
 pub struct Line {
@@ -132,8 +132,8 @@ pub fn read_number(s: &[u8], from: usize, to: usize) -> Field
 
 // Takes the number from lo to hi that starts at `at`, has at most 8 digits and ends at a byte `stop`.
 pub fn take_number(s: &[u8], at: usize, stop: u8, lo: u32, hi: u32) -> Taken
-    requires { ⌜ at + 9 ≤ length (now s) ⌝ }
-    ensures { λ r. ⌜ TakenAt (now (s .entry)) at stop lo hi r ⌝ }
+    requires { ⌜ (at + 9 ≤ length (now s)) × (stop < 48) ⌝ }
+    ensures { λ r. ⌜ r ≡ takenAt (now (s .entry)) at stop lo hi ⌝ }
 {
     let mut v: u32 = 0;
     let mut k: usize = 0;
@@ -196,7 +196,7 @@ pub fn is_name(s: &[u8], from: usize, to: usize) -> bool
 // Takes the name that starts at `at` and ends at a byte 10: where it ends, or `at`.
 pub fn take_name(s: &[u8], at: usize) -> usize
     requires { ⌜ at + 17 ≤ length (now s) ⌝ }
-    ensures { λ r. ⌜ (at < r → NameAt (now (s .entry)) at r) ⌝ }
+    ensures { λ r. ⌜ r ≡ nameEnd (now (s .entry)) at ⌝ }
 {
     let mut k: usize = 0;
     while k < 16 {

@@ -1,15 +1,16 @@
+use mathlib.Core.Logic.{inl, inr, ⊎-elim}
 use Prim.Native.Nat.{_+_, _-_, _≤_}
 use native.Mathlib.Omega.{arith}
 use lib.ListN.{length}
 use borrow.Author.Needs.{needs}
-use Rattle.text.proofs.Take.{Letters, letters-none, letters-more, letters-name}
+use Rattle.text.proofs.Take.{Letters, letters-none, letters-more, letters-other, letters-name}
 use Rattle.text.proofs.take_name.Statement.{statement}
 use Rattle.text.proofs.take_name.Tie as tie
 use Rattle.text.proofs.take_name.Reads as reads
 use Rattle.text.proofs.take_name.Lts as lts
 
 abbrev Inv-loop : tie.InvT-loop
-Inv-loop s at k₀ k = (k ≤ 16) × (at + 17 ≤ length s) × Letters s at (at + k)
+Inv-loop s at k₀ k = (k ≤ 16) × (at + 17 ≤ length s) × Letters s at k
 
 abbrev μ-loop : tie.MeasureT-loop
 μ-loop s at k₀ k = 16 - k
@@ -36,7 +37,7 @@ loop-less c = search needs
 
 -- src/lib.rt:166:5
 loop-again : tie.Need-loop-again Inv-loop μ-loop
-loop-again c = (search needs, search needs, letters-more _ _ _ (c .before .before .before .before .loop .inv .2) (search needs) (search needs))
+loop-again c = (search needs, search needs, letters-more _ _ _ (c .before .before .before .before .loop .inv .2) (search needs) (λ e. omega arith) (search needs) (search needs))
 
 -- src/lib.rt:176:10
 add-if3 : tie.Need-add-if3 Inv-loop μ-loop
@@ -54,9 +55,10 @@ add-result c = search needs
 returns : tie.Need-returns Inv-loop μ-loop
 returns c = letters-name _ _ _ (c .before .before .before .loop .inv .2) (search needs) (search needs) (search needs)
 
--- src/lib.rt:161:1
 returns-2 : tie.Need-returns-2 Inv-loop μ-loop
-returns-2 c = λ h. absurd (omega arith)
+returns-2 c =
+    letters-other _ _ _ (c .before .before .before .loop .inv .2) (search needs) (search needs)
+    (⊎-elim (λ w. inl (search needs)) (λ w. inr (⊎-elim (λ x. inl (search needs)) (λ x. inr (search needs)) w)) (c .before .before .loop-test .came))
 
 pub take-name-spec : {M : Type 1} → statement M
 take-name-spec =

@@ -1,25 +1,28 @@
-use mathlib.Core.Path.{refl}
-use mathlib.Core.Logic.{inl, inr, ⊎-elim}
+use mathlib.Core.Path.{_≡_, refl, sym}
+use mathlib.Core.Logic.{_⊎_, inl, inr, ⊎-elim}
 use Prim.Native.Nat.{_+_, _-_, _^_, _<_, _≤_}
 use native.Mathlib.Omega.{arith}
-use lib.ListN.{length}
+use lib.ListN.{length, getD}
 use borrow.Author.Needs.{needs}
-use Rattle.text.proofs.Number.{digits-value}
-use Rattle.text.proofs.Take.{Run, run-none, run-more, run-number}
+use Rattle.text.proofs.Number.{Digits, digits-none, digits-more, digits-value}
+use Rattle.text.proofs.Take.{NoDigit, take-open, take-none, take-zero, take-low, take-high, take-digits}
 use Rattle.text.proofs.take_number.Statement.{statement}
 use Rattle.text.proofs.take_number.Tie as tie
 use Rattle.text.proofs.take_number.Reads as reads
 use Rattle.text.proofs.take_number.Lts as lts
 
 abbrev Inv-loop : tie.InvT-loop
-Inv-loop s at stop lo hi v₀ k₀ v k = (k ≤ 8) × (at + 9 ≤ length s) × Run s at (at + k) v
+Inv-loop s at stop lo hi v₀ k₀ v k = (k ≤ 8) × (at + 9 ≤ length s) × Digits stop s at (length s) (at + k) v
 
 abbrev μ-loop : tie.MeasureT-loop
 μ-loop s at stop lo hi v₀ k₀ v k = 8 - k
 
 -- src/lib.rt:104:5
 loop-holds : tie.Need-loop-holds Inv-loop μ-loop
-loop-holds c = (search needs, search needs, run-none _ _)
+loop-holds c =
+    let a = c .args .at in
+    let z : a + 0 ≡ a = omega arith in
+    (search needs, search needs, rw z (digits-none _ _ _ _ (search needs) (search needs)))
 
 -- src/lib.rt:105:19
 add-digit : tie.Need-add-digit Inv-loop μ-loop
@@ -34,7 +37,7 @@ few : (c : tie.Else2 Inv-loop μ-loop) → c .before .before .before .before .lo
 few c =
     let l = c .before .before .before .before .loop in
     let at = c .before .before .before .before .before .args .at in
-    digits-value _ _ _ _ _ (l .inv .2 (at + l .k) (omega arith) (search needs)) 7 (search needs)
+    digits-value _ _ _ _ _ _ (l .inv .2) 7 (search needs)
 
 -- src/lib.rt:112:13
 mul-v : tie.Need-mul-v Inv-loop μ-loop
@@ -58,11 +61,20 @@ loop-less c = search needs
 
 -- src/lib.rt:104:5
 loop-again : tie.Need-loop-again Inv-loop μ-loop
-loop-again c = (search needs, search needs, run-more _ _ _ _ _ (c .before .before .before .before .loop .inv .2) (search needs) refl (search needs) (search needs))
+loop-again c =
+    let a = c .before .before .before .before .before .args in
+    let l = c .before .before .before .before .loop in
+    let z : a .at + (l .k + 1) ≡ a .at + l .k + 1 = omega arith in
+    (search needs, search needs, rw z (digits-more _ _ _ _ _ _ (l .inv .2) (search needs) (λ e. omega arith) _ refl (search needs) (search needs) (search needs)))
+
+-- After the loop no digit is next, or there were 8.
+stopped : (c : tie.Left-loop Inv-loop μ-loop) →
+    (8 ≤ c .before .loop .k) ⊎ NoDigit (getD (c .before .before .args .s .now) (c .before .before .args .at + c .before .loop .k) 0)
+stopped c = ⊎-elim (λ w. inl (search needs)) (λ w. inr (⊎-elim (λ x. inl (search needs)) (λ x. inr (search needs)) w)) (c .loop-test .came)
 
 -- src/lib.rt:116:9
 returns : tie.Need-returns Inv-loop μ-loop
-returns c = tt
+returns c = sym (take-none _ _ _ _ _ _ _ (c .before .before .loop .inv .2) (search needs) (search needs) (stopped (c .before)))
 
 -- src/lib.rt:119:12
 shared-slice-read-if5 : tie.Need-shared-slice-read-if5 Inv-loop μ-loop
@@ -70,7 +82,7 @@ shared-slice-read-if5 c = search needs
 
 -- src/lib.rt:120:13
 returns-2 : tie.Need-returns-2 Inv-loop μ-loop
-returns-2 c = tt
+returns-2 c = sym (take-zero _ _ _ _ _ _ _ (c .before .before .before .before .before .loop .inv .2) (search needs) (search needs) (search needs))
 
 -- src/lib.rt:123:10
 add-if6 : tie.Need-add-if6 Inv-loop μ-loop
@@ -82,15 +94,15 @@ shared-slice-read-if6 c = search needs
 
 -- src/lib.rt:124:9
 returns-3 : tie.Need-returns-3 Inv-loop μ-loop
-returns-3 c = tt
+returns-3 c = sym (take-open _ _ _ _ _ _ _ (c .before .before .before .before .before .loop .inv .2) (search needs) (search needs) (stopped (c .before .before .before .before)))
 
 -- src/lib.rt:127:9
 returns-4 : tie.Need-returns-4 Inv-loop μ-loop
-returns-4 c = tt
+returns-4 c = sym (take-low _ _ _ _ _ _ _ (c .before .before .before .before .before .before .loop .inv .2) (search needs) (search needs) (search needs))
 
 -- src/lib.rt:130:9
 returns-5 : tie.Need-returns-5 Inv-loop μ-loop
-returns-5 c = tt
+returns-5 c = sym (take-high _ _ _ _ _ _ _ (c .before .before .before .before .before .before .before .loop .inv .2) (search needs) (search needs) (search needs))
 
 -- src/lib.rt:132:22
 add-t19 : tie.Need-add-t19 Inv-loop μ-loop
@@ -99,8 +111,8 @@ add-t19 c = search needs
 -- src/lib.rt:98:1
 returns-6 : tie.Need-returns-6 Inv-loop μ-loop
 returns-6 c =
-    run-number _ _ _ _ (c .before .before .before .before .before .before .before .loop .inv .2) (search needs) (search needs) _ _ _ (search needs)
-    (⊎-elim (λ w. inr (w .2 .left)) (λ w. inl (omega arith)) (c .before .before .before .before .if4 .came)) (search needs) (search needs) (search needs)
+    sym (take-digits _ _ _ _ _ _ _ (c .before .before .before .before .before .before .before .loop .inv .2) (search needs) (search needs) (search needs) (search needs)
+    (⊎-elim (λ w. inr (w .2 .left)) (λ w. inl (omega arith)) (c .before .before .before .before .if4 .came)) (search needs) (search needs))
 
 pub take-number-spec : {M : Type 1} → statement M
 take-number-spec =
