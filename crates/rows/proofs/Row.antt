@@ -63,15 +63,20 @@ module _ (s : List ℕ) (from to letter k : ℕ) (long : to ≤ length s) where
           rw (eq-eqb (before 9 (part from to s)) 1 (omega (arith, one, alone c)), eq-eqb (getD (part from to s) 0 0) letter f) refl
 
 module _ (letter k : ℕ) (line : List ℕ) (e : opens letter k line ≡ true) where
-  -- A line that opens so has one byte before its first byte 9, and k bytes 9.
+  -- A line that opens so has the letter alone before its first byte 9, and k bytes 9.
   pub opens-before : before 9 line ≡ 1
   unfolding opens
   opens-before = eqb-true _ _ (cond-true (eqb (before 9 line) 1) _ e .0)
 
-  pub opens-tabs : count 9 line ≡ k
+  letter-tabs : (eqb (getD line 0 0) letter ≡ true) × (eqb (count 9 line) k ≡ true)
   unfolding opens
-  opens-tabs =
-      eqb-true _ _ (cond-true (eqb (getD line 0 0) letter) _ (cond-true (eqb (before 9 line) 1) _ e .1) .1)
+  letter-tabs = cond-true (eqb (getD line 0 0) letter) _ (cond-true (eqb (before 9 line) 1) _ e .1)
+
+  pub opens-letter : getD line 0 0 ≡ letter
+  opens-letter = eqb-true _ _ (letter-tabs .0)
+
+  pub opens-tabs : count 9 line ≡ k
+  opens-tabs = eqb-true _ _ (letter-tabs .1)
 
 module _ (s : List ℕ) (from to letter k : ℕ) (h : from ≤ to) (long : to ≤ length s) (e : opens letter k (part from to s) ≡ true) where
   pub opens-some : from < to

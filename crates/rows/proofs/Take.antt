@@ -1,7 +1,7 @@
 -- Laws of lines that are taken in one pass: the letter, one number more, and the last; and what a sound line has at each of these
 -- steps.
 -- Assumes nothing.
-use mathlib.Core.Path.{_≡_, refl, ap, sym, subst, _∙_}
+use mathlib.Core.Path.{_≡_, refl, ap, sym, _∙_}
 use mathlib.Core.Bool.{Bool, true, false, cond}
 use mathlib.Core.List.{List, [], _∷_}
 use Prim.Native.Nat.{ℕ, zero, suc, _+_, _≤_, _<_, _^_}
@@ -9,21 +9,21 @@ use native.Mathlib.Decide.{ℕ-discrete}
 use native.Mathlib.Omega.{arith}
 use lib.Dec.{eqb, leb, ltb}
 use lib.ListN.{length, getD, set, replicate, drop, length-drop}
-use lib.Seq.{getD-take, getD-drop}
 use borrow.Author.Tests.{le-leb, leb-true, le-ltb, ltb-false, eq-eqb, ne-eqb, eqb-true}
 use Rattle.text.specs.Text.{before, until, beyond, ahead, count, part}
 use Rattle.text.specs.Line.{LineAt}
 use Rattle.text.specs.Number.{all, isNumber, valueFrom, isName}
 use Rattle.text.specs.Take.{takenAt, nameEnd}
-use Rattle.text.specs.declared.Taken.the-variants.{Number, Other}
-use Rattle.text.proofs.Text.{before-hit, before-pass, until-hit, until-pass, count-ahead, drop-here, before-le, length-until, ahead-lt}
+use Rattle.text.specs.declared.Taken.the-variants.{Other}
+use Rattle.text.proofs.Text.{before-byte, until-byte, until-hit, until-pass, count-ahead, drop-here, length-until, ahead-lt, lt-ahead}
+use Rattle.text.proofs.Scanned.{line-part}
 use Rattle.text.proofs.Number.{all-none, all-on}
 use Rattle.text.proofs.Take.{clash, cond-true, not-both, number-all, number-few, name-all, name-some, all-count, Onward, onward, first-field, one-field, Short, NumberAt, taken-so, name-so, name-taken}
 use Rattle.rows.specs.declared.Fault.{Fault}
 use Rattle.rows.specs.declared.Fault.the-variants.{Sound, Shape, Form, Range}
 use Rattle.rows.specs.Row.{Row, opens, numbersFrom, rowOf, nameFault}
 use Rattle.rows.specs.Take.{isSound, starts, isTaken, nameLineEnd}
-use Rattle.rows.proofs.Row.{opens-before, opens-tabs}
+use Rattle.rows.proofs.Row.{opens-before, opens-letter, opens-tabs}
 use Rattle.rows.proofs.Within.{faulty, malformed, shapeless, passed}
 
 -- ---- what is taken
@@ -72,18 +72,223 @@ module _ (s : List ℕ) (p letter room : ℕ) where
   unfolding starts
   starts-so z = rw (le-leb _ _ (z .within), eq-eqb _ _ (z .first), eq-eqb _ _ (z .second)) refl
 
+  pub starts-not : (Starts s p letter room → ⊥) → false ≡ starts s p letter room
+  starts-not n = go (starts s p letter room) refl
+    where
+      go : (b : Bool) → starts s p letter room ≡ b → false ≡ b
+      go true e = absurd (n (starts-is e))
+      go false e = refl
+
+  -- Where the room and the letter are there, the byte behind it decides.
+  pub starts-second : p + room ≤ length s → getD s p 0 ≡ letter → eqb (getD s (p + 1) 0) 9 ≡ starts s p letter room
+  unfolding starts
+  starts-second l f = rw (le-leb _ _ l, eq-eqb _ _ f) refl
+
   -- A line that opens with the letter and has fields behind it starts so.
   pub opens-starts : (k : ℕ) → 0 < k → p + room ≤ length s → opens letter k (until 10 (drop p s)) ≡ true → starts s p letter room ≡ true
-  opens-starts k h l e = ?
+  opens-starts k h l e =
+      let line = until 10 (drop p s) in
+      let one = opens-before letter k line e in
+      let two = count-ahead 9 line (omega (arith, opens-tabs letter k line e)) in
+      let n = length-until 10 (drop p s) in
+      let z : p + 0 ≡ p = omega arith in
+      let a = ap (λ (i : ℕ). getD s i 0) (sym z) ∙ sym (until-byte 10 p s 0 (omega arith)) ∙ opens-letter letter k line e in
+      let b = sym (until-byte 10 p s 1 (omega arith)) ∙ ap (λ (i : ℕ). getD line i 0) (sym one) ∙ before-byte 9 line two in
+      starts-so (record { within = l; first = a; second = b })
+
+eqb-suc : (a b : ℕ) → eqb (suc a) (suc b) ≡ eqb a b
+eqb-suc a b =
+    elim (ℕ-discrete a b) [
+      | yes e ↦ eq-eqb (suc a) (suc b) (ap suc e) ∙ sym (eq-eqb a b e)
+      | no n ↦ ne-eqb (suc a) (suc b) (λ e. n (omega arith)) ∙ sym (ne-eqb a b n)
+    ]
 
 module _ {s : List ℕ} {from letter room : ℕ} (z : Starts s from letter room) (high : 65 ≤ letter) (two : 2 ≤ room) where
-  starts-before : before 9 (drop from s) ≡ 1
-  starts-before = ?
+  -- Its first field is the letter.
+  one-letter : until 9 (drop from s) ≡ letter ∷ []
+  one-letter =
+      let l = z .within in
+      let f = z .first in
+      let a = ap (until 9) (drop-here s from (omega arith)) ∙ until-pass 9 (getD s from 0) (drop (from + 1) s) (λ w. omega arith) in
+      let b = ap (until 9) (drop-here s (from + 1) (omega arith)) ∙ until-hit 9 (getD s (from + 1) 0) (drop (from + 1 + 1) s) (z .second) in
+      a ∙ rw (b, f) refl
+
+  one-before : before 9 (drop from s) ≡ 1
+  one-before = sym (length-until 9 (drop from s)) ∙ ap length one-letter
 
   pub starts-onward : Onward s from (from + 2)
-  starts-onward = ?
+  starts-onward =
+      let l = z .within in
+      onward letter letter (omega arith) s from (from + 2)
+      (ap (all letter letter) one-letter ∙ all-on letter letter letter [] (omega arith) (omega arith) ∙ all-none letter letter)
+      (lt-ahead 9 (drop from s) (omega (arith, one-before, length-drop from s))) (omega (arith, one-before))
 
   -- The line's count of fields says whether it opens so.
   starts-opens : (k : ℕ) → opens letter (suc k) (until 10 (drop from s)) ≡ eqb (count 9 (until 10 (drop (from + 2) s))) k
   unfolding opens
-  starts-opens k = ?
+  starts-opens k =
+      let o = starts-onward in
+      let line = until 10 (drop from s) in
+      let a : before 9 line ≡ 1 = sym (length-until 9 line) ∙ ap length (o .field) ∙ ap length one-letter in
+      let y : from + 0 ≡ from = omega arith in
+      let f : getD line 0 0 ≡ letter = until-byte 10 from s 0 (omega (arith, o .end)) ∙ rw y (z .first) in
+      rw (eq-eqb _ _ a, eq-eqb _ _ f, o .tabs) (eqb-suc (count 9 (until 10 (drop (from + 2) s))) k)
+
+-- ---- numbers
+
+-- A line that cannot be opened, as `rowOf` has it.
+abbrev shut : Row
+shut = record { fault = Shape; values = replicate 10 0; rest = [] }
+
+-- The byte that ends a number with n numbers behind it in its line.
+abbrev pub stopAt : ℕ → ℕ
+stopAt zero = 10
+stopAt (suc n) = 9
+
+-- Of the line at `from`, which has the letter and k numbers, the numbers before number j are taken, with values vs; it goes on at
+-- place p with that number and n more.
+pub record Taking (s : List ℕ) (from letter k : ℕ) (los his : List ℕ) (n j p : ℕ) (vs : List ℕ) : Type 0 where
+  pub ends : ahead 10 (drop from s) ≡ ahead 10 (drop p s)
+  pub end : from + before 10 (drop from s) ≡ p + before 10 (drop p s)
+  pub row : rowOf letter k los his (until 10 (drop from s))
+      ≡ cond (eqb (count 9 (until 10 (drop p s))) n) (numbersFrom los his (suc n) j (until 10 (drop p s)) vs) shut
+
+pub taking-none : {s : List ℕ} {from letter room : ℕ} (los his : List ℕ) (n : ℕ) → Starts s from letter room → 65 ≤ letter → 2 ≤ room →
+    Taking s from letter (suc n) los his n 0 (from + 2) (replicate 10 0)
+unfolding rowOf
+taking-none los his n z high two =
+    let o = starts-onward z high two in
+    record { ends = o .ends; end = o .end; row = rw (starts-opens z high two n, o .rest) refl }
+
+shut-not : (b : Bool) (row : Row) → (cond b row shut) .fault ≡ Sound → (b ≡ true) × (row .fault ≡ Sound)
+shut-not true row e = (refl, e)
+shut-not false row e = absurd (shapeless e)
+
+-- A sound line of a letter and numbers starts with them.
+pub row-starts : (s : List ℕ) (p letter room n : ℕ) (los his : List ℕ) → p + room ≤ length s →
+    (rowOf letter (suc n) los his (until 10 (drop p s))) .fault ≡ Sound → starts s p letter room ≡ true
+unfolding rowOf
+row-starts s p letter room n los his l e =
+    opens-starts s p letter room (suc n) (omega arith) l (shut-not (opens letter (suc n) (until 10 (drop p s))) _ e .0)
+
+-- The first of the numbers of a sound line has at most 8 digits, where its range ends below 10 ^ 8.
+first-short : (los his : List ℕ) (n j : ℕ) (line vs : List ℕ) → getD his j 0 < 10 ^ 8 → (numbersFrom los his (suc n) j line vs) .fault ≡ Sound →
+    Short (getD los j 0) (getD his j 0) (until 9 line)
+unfolding numbersFrom
+first-short los his n j line vs h e =
+    let v = valueFrom 0 (until 9 line) in
+    let p = passed (isNumber (until 9 line)) (ltb v (getD los j 0)) (ltb (getD his j 0) v) _ _ _ (malformed (j + 2)) (faulty (j + 2)) e in
+    let l : v ≤ getD his j 0 = ltb-false _ _ (p .2) in
+    record { form = p .0; few = number-few 8 (omega arith) _ (p .0) (omega arith); low = ltb-false _ _ (p .1); high = l }
+
+-- Of a line with n bytes 9, the first field and the byte that ends it.
+first-stop : (n : ℕ) (t : List ℕ) → ahead 10 t ≡ true → count 9 (until 10 t) ≡ n → (ahead (stopAt n) t ≡ true) × (until (stopAt n) t ≡ until 9 (until 10 t))
+first-stop zero t a c = (a, sym (one-field (until 10 t) c))
+first-stop (suc n) t a c = let f = first-field t (omega arith) in (lt-ahead 9 t (f .1), f .0)
+
+module _ {s : List ℕ} {from letter k : ℕ} {los his : List ℕ} {j p : ℕ} {vs : List ℕ} where
+  -- One number more.
+  pub taking-more : {n v e : ℕ} → Taking s from letter k los his (suc n) j p vs → NumberAt s p 9 (getD los j 0) (getD his j 0) v e →
+      Taking s from letter k los his n (j + 1) (e + 1) (set vs j v)
+  unfolding numbersFrom
+  taking-more {n} {v} {e} t z =
+      let f = z .short in
+      let o = onward 48 57 (omega arith) s p (e + 1) (number-all _ (f .form)) (z .stops) (omega (arith, z .end)) in
+      record {
+        ends = t .ends ∙ o .ends;
+        end = t .end ∙ o .end;
+        row = t .row
+            ∙ rw (o .tabs, eqb-suc (count 9 (until 10 (drop (e + 1) s))) n, o .field, f .form, le-ltb _ _ (f .low), le-ltb _ _ (f .high), o .rest, ← z .value) refl;
+      }
+
+  -- The last number, and with it the line.
+  pub taking-last : {v e : ℕ} → Taking s from letter k los his 0 j p vs → NumberAt s p 10 (getD los j 0) (getD his j 0) v e →
+      (ahead 10 (drop from s) ≡ true) × (e ≡ from + before 10 (drop from s))
+      × (rowOf letter k los his (until 10 (drop from s)) ≡ record { fault = Sound; values = set vs j v; rest = beyond 9 (until 10 (drop p s)) })
+  unfolding numbersFrom
+  taking-last t z =
+      let f = z .short in
+      let c = all-count 48 57 (omega arith) _ (number-all _ (f .form)) in (
+        t .ends ∙ z .stops,
+        omega (arith, z .end, t .end),
+        t .row ∙ rw (c, one-field _ c, f .form, le-ltb _ _ (f .low), le-ltb _ _ (f .high), ← z .value) refl,
+      )
+
+  -- A sound line has the next number.
+  pub taking-other : {n : ℕ} → Taking s from letter k los his n j p vs → getD his j 0 < 10 ^ 8 →
+      takenAt s p (stopAt n) (getD los j 0) (getD his j 0) ≡ Other → ahead 10 (drop from s) ≡ true →
+      (rowOf letter k los his (until 10 (drop from s))) .fault ≡ Sound → ⊥
+  taking-other {n} t h e a sound =
+      let w = shut-not (eqb (count 9 (until 10 (drop p s))) n) _ (ap (λ (r : Row). r .fault) (sym (t .row)) ∙ sound) in
+      let f = first-stop n (drop p s) (sym (t .ends) ∙ a) (eqb-true _ _ (w .0)) in
+      let q = taken-so s p (stopAt n) (getD los j 0) (getD his j 0) (f .0) (rw (f .1) (first-short los his n j _ vs h (w .1))) in
+      let c : _≡_ {A = ℕ} 0 1 = cc in
+      omega arith
+
+-- ---- names
+
+module _ (s : List ℕ) (from : ℕ) where
+  pub name-line-none : (isTaken s from 19 nameFault ≡ true → ⊥) → from ≡ nameLineEnd s from
+  unfolding nameLineEnd
+  name-line-none n = sym (not-both true (isTaken s from 19 nameFault) _ _ (λ a. n))
+
+  -- A name line has its letter, and its name.
+  name-parts : SoundAt s from 19 nameFault → (opens 74 1 (until 10 (drop from s)) ≡ true) × (isName (beyond 9 (until 10 (drop from s))) ≡ true)
+  unfolding nameFault
+  name-parts z = go (opens 74 1 (until 10 (drop from s))) (isName (beyond 9 (until 10 (drop from s)))) (z .sound)
+    where
+      go : (a b : Bool) → cond a (cond b Sound (Form 2)) Shape ≡ Sound → (a ≡ true) × (b ≡ true)
+      go true true e = (refl, refl)
+      go true false e = absurd (malformed 2 e)
+      go false b e = absurd (shapeless e)
+
+  pub name-unstarted : starts s from 74 19 ≡ false → from ≡ nameLineEnd s from
+  name-unstarted e =
+      name-line-none (λ t.
+      let z = sound-at s from 19 nameFault t in
+      let c = clash (sym (opens-starts s from 74 19 1 (omega arith) (z .within) (name-parts z .0)) ∙ e) in
+      omega arith)
+
+  module _ (z : Starts s from 74 19) where
+    o : Onward s from (from + 2)
+    o = starts-onward z (omega arith) (omega arith)
+
+    name-sound : isName (until 10 (drop (from + 2) s)) ≡ true → nameFault (until 10 (drop from s)) ≡ Sound
+    unfolding nameFault
+    name-sound n =
+        let a = starts-opens z (omega arith) (omega arith) 0 ∙ eq-eqb _ _ (all-count 33 126 (omega arith) _ (name-all _ n)) in
+        rw (a, o .rest, n) refl
+
+    pub name-line-taken : from + 2 < nameEnd s (from + 2) → nameEnd s (from + 2) ≡ nameLineEnd s from
+    unfolding nameLineEnd
+    name-line-taken h =
+        let n = name-taken s (from + 2) h in
+        let t = sound-taken s from 19 nameFault (record { within = z .within; ends = o .ends ∙ n .0; sound = name-sound (n .1) }) in
+        rw t (omega (arith, o .end, name-so s (from + 2) (n .0) (n .1)))
+
+    pub name-line-left : nameEnd s (from + 2) ≤ from + 2 → from ≡ nameLineEnd s from
+    name-line-left h =
+        name-line-none (λ t.
+        let y = sound-at s from 19 nameFault t in
+        let n = ap isName (sym (o .rest)) ∙ name-parts y .1 in
+        omega (arith, name-so s (from + 2) (sym (o .ends) ∙ y .ends) n, name-some _ n, length-until 10 (drop (from + 2) s)))
+
+-- A sound line J of the text s starts at place p and ends at place e.
+pub record NameLine (s : List ℕ) (p e : ℕ) : Type 0 where
+  pub line : LineAt s p (record { end = e; tabs = 1 })
+  pub sound : nameFault (part p e s) ≡ Sound
+  pub ended : e < length s
+
+pub name-line : (s : List ℕ) (p e : ℕ) → e ≡ nameLineEnd s p → p < e → NameLine s p e
+unfolding nameLineEnd
+name-line s p e q h = go (isTaken s p 19 nameFault) refl q
+  where
+    go : (b : Bool) → isTaken s p 19 nameFault ≡ b → e ≡ cond b (p + before 10 (drop p s)) p → NameLine s p e
+    go true t w =
+        let z = sound-at s p 19 nameFault t in
+        let l = ahead-lt 10 (drop p s) (z .ends) in
+        let n = length-drop p s in
+        let line : LineAt s p (record { end = e; tabs = 1 }) =
+        record { end = w; tabs = sym (opens-tabs 74 1 _ (name-parts s p z .0)); within = omega arith } in
+        record { line = line; sound = ap nameFault (line-part line) ∙ z .sound; ended = omega arith }
+    go false t w = absurd (omega arith)

@@ -6,11 +6,11 @@ use mathlib.Core.List.{List}
 use Prim.Native.Nat.{ℕ, _+_, _-_, _≤_, _<_}
 use native.Mathlib.Omega.{arith}
 use lib.ListN.{length, drop, length-drop}
-use borrow.Author.Tests.{lt-ltb, le-ltb}
+use borrow.Author.Tests.{le-ltb}
 use Rattle.text.specs.Text.{before, until, beyond, ahead, count, part}
 use Rattle.text.specs.Line.{LineAt}
 use Rattle.text.specs.declared.Line.{Line}
-use Rattle.text.proofs.Text.{beyond-drop}
+use Rattle.text.proofs.Text.{lt-ahead, beyond-drop}
 
 module _ {s : List ℕ} {p : ℕ} {r : Line} (z : LineAt s p r) where
   pub line-part : part p (r .end) s ≡ until 10 (drop p s)
@@ -24,8 +24,7 @@ module _ {s : List ℕ} {p : ℕ} {r : Line} (z : LineAt s p r) where
   line-from = omega (arith, z .end)
 
   pub line-ahead : r .end < length s → ahead 10 (drop p s) ≡ true
-  unfolding ahead
-  line-ahead h = lt-ltb (before 10 (drop p s)) (length (drop p s)) (omega (arith, z .end, length-drop p s))
+  line-ahead h = lt-ahead 10 (drop p s) (omega (arith, z .end, length-drop p s))
 
   pub line-missing : length s ≤ r .end → p ≤ length s → ahead 10 (drop p s) ≡ false
   unfolding ahead

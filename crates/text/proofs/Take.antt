@@ -16,7 +16,7 @@ use Rattle.text.specs.Text.{before, until, beyond, ahead, count, part}
 use Rattle.text.specs.Number.{all, leadingZero, isNumber, valueFrom, isName}
 use Rattle.text.specs.Take.{isShort, takenAt, nameEnd}
 use Rattle.text.specs.declared.Taken.the-variants.{Number, Other}
-use Rattle.text.proofs.Text.{before-none, before-hit, before-pass, until-none, until-hit, until-pass, beyond-hit, beyond-pass, count-none, count-hit, count-pass, ahead-lt, beyond-drop, drop-here, part-all, length-until}
+use Rattle.text.proofs.Text.{before-none, before-hit, before-pass, until-none, until-hit, until-pass, beyond-hit, beyond-pass, count-none, count-hit, count-pass, ahead-lt, lt-ahead, beyond-drop, drop-here, part-all, length-until}
 use Rattle.text.proofs.Number.{all-none, all-low, all-high, all-on, number-zero, name-form, Digits, digits-zero, digits-low, digits-high, digits-longer, digits-size, digits-empty, digits-form, digits-sum, ends-field}
 
 -- ---- tests that are passed, or not
@@ -315,11 +315,10 @@ module _ (s : List ℕ) (p stop lo hi k v : ℕ) (z : Digits stop s p (length s)
     take-high l = taken-none s p stop lo hi (λ a n. omega (arith, n .high, sum))
 
     pub take-digits : 0 < k → k ≤ 8 → (k ≤ 1) ⊎ (getD s p 0 ≡ 48 → ⊥) → lo ≤ v → v ≤ hi → takenAt s p stop lo hi ≡ Number v (p + k)
-    unfolding ahead
     take-digits a b c l m =
         let f = ap isNumber (sym field)
         ∙ digits-form stop s p (length s) (p + k) v z ended (omega arith) (⊎-elim (λ (x : k ≤ 1). inl (omega arith)) (λ x. inr x) c) in
-        let g = lt-ltb (before stop (drop p s)) (length (drop p s)) (omega (arith, length-until stop (drop p s), size, length-drop p s)) in
+        let g = lt-ahead stop (drop p s) (omega (arith, length-until stop (drop p s), size, length-drop p s)) in
         taken-so s p stop lo hi g (record { form = f; few = omega (arith, size); low = omega (arith, sum); high = omega (arith, sum) })
         ∙ rw (sum, size) refl
 
@@ -384,7 +383,6 @@ module _ (s : List ℕ) (p k : ℕ) (z : Letters s p k) (h : p + k < length s) w
 
   -- A byte 10 ends the name; where it is empty, none is taken.
   pub letters-name : k ≤ 16 → getD s (p + k) 0 ≡ 10 → p + k ≡ nameEnd s p
-  unfolding ahead
   letters-name l e =
       let d = drop-here s (p + k) h in
       let b : before 10 (drop p s) ≡ k = omega (arith, z .size, ap (before 10) d ∙ before-hit 10 _ _ e) in
@@ -392,7 +390,7 @@ module _ (s : List ℕ) (p k : ℕ) (z : Letters s p k) (h : p + k < length s) w
       elim (ℕ-discrete k 0) [
         | yes q ↦ omega (arith, name-none s p (λ a m. omega (arith, name-some _ m)))
         | no q ↦
-            let a = lt-ltb (before 10 (drop p s)) (length (drop p s)) (omega (arith, length-drop p s)) in
+            let a = lt-ahead 10 (drop p s) (omega (arith, length-drop p s)) in
             let m = name-form (until 10 (drop p s)) (omega arith) (omega arith)
             ∙ z .rest
             ∙ ap (all 33 126) (ap (until 10) d ∙ until-hit 10 _ _ e)

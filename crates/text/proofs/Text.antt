@@ -9,8 +9,8 @@ use native.Mathlib.Decide.{ℕ-discrete}
 use native.Mathlib.Numerals.{add-one}
 use native.Mathlib.Omega.{arith}
 use lib.ListN.{length, getD, take, drop, length-take, length-drop}
-use lib.Seq.{drop-cons, take-nil, take-all, drop-drop}
-use borrow.Author.Tests.{ltb-true, eq-eqb, ne-eqb}
+use lib.Seq.{drop-cons, take-nil, take-all, drop-drop, getD-take, getD-drop}
+use borrow.Author.Tests.{lt-ltb, ltb-true, eq-eqb, ne-eqb}
 use Rattle.text.specs.Line.{LineAt}
 use Rattle.text.specs.Text.{before, until, beyond, ahead, count, part}
 
@@ -132,6 +132,10 @@ pub ahead-lt : (b : ℕ) (t : List ℕ) → ahead b t ≡ true → before b t < 
 unfolding ahead
 ahead-lt b t e = ltb-true _ _ e
 
+pub lt-ahead : (b : ℕ) (t : List ℕ) → before b t < length t → ahead b t ≡ true
+unfolding ahead
+lt-ahead b t h = lt-ltb _ _ h
+
 -- Where there is a byte b, one is ahead.
 pub count-ahead : (b : ℕ) (t : List ℕ) → 0 < count b t → before b t < length t
 unfolding before count
@@ -141,6 +145,21 @@ count-ahead b (c ∷ t) h =
       | yes e ↦ rw (eq-eqb c b e) (omega arith)
       | no n ↦ rw (ne-eqb c b n) (omega (arith, count-ahead b t (rw (ne-eqb c b n) at h)))
     ]
+
+-- The byte b that is ahead.
+pub before-byte : (b : ℕ) (t : List ℕ) → before b t < length t → getD t (before b t) 0 ≡ b
+unfolding before
+before-byte b [] h = absurd (omega arith)
+before-byte b (c ∷ t) h =
+    elim (ℕ-discrete c b) [
+      | yes e ↦ rw (eq-eqb c b e) e
+      | no n ↦ rw (ne-eqb c b n) (before-byte b t (omega (arith, rw (ne-eqb c b n) at h)))
+    ]
+
+-- The bytes before it, by their places.
+pub until-byte : (b p : ℕ) (s : List ℕ) (i : ℕ) → i < before b (drop p s) → getD (until b (drop p s)) i 0 ≡ getD s (p + i) 0
+unfolding until
+until-byte b p s i h = getD-take (before b (drop p s)) (drop p s) i 0 h ∙ getD-drop p s i 0
 
 -- ---- scanning a line
 

@@ -1,8 +1,6 @@
-use mathlib.Core.Path.{sym}
 use native.Mathlib.Omega.{arith}
 use borrow.Author.Needs.{needs}
-use borrow.Author.Tests.{eqb-true}
-use Rattle.text.proofs.Take.{clash}
+use Rattle.rows.proofs.Take.{starts-not, starts-second}
 use Rattle.rows.proofs.starts_with.Statement.{statement}
 use Rattle.rows.proofs.starts_with.Tie as tie
 use Rattle.rows.proofs.starts_with.Reads as reads
@@ -14,7 +12,7 @@ sub-if1 c = search needs
 
 -- src/lib.rt:142:9
 returns : tie.Need-returns
-returns c = λ e. let z = clash (sym e) in absurd (omega arith)
+returns c = starts-not _ _ _ _ (λ z. omega (arith, z .within))
 
 -- src/lib.rt:144:8
 shared-slice-read-if2 : tie.Need-shared-slice-read-if2
@@ -22,7 +20,7 @@ shared-slice-read-if2 c = search needs
 
 -- src/lib.rt:145:9
 returns-2 : tie.Need-returns-2
-returns-2 c = λ e. let z = clash (sym e) in absurd (omega arith)
+returns-2 c = starts-not _ _ _ _ (λ z. c .if2 .taken (z .first))
 
 -- src/lib.rt:147:7
 add-result : tie.Need-add-result
@@ -34,7 +32,7 @@ shared-slice-read-result c = search needs
 
 -- src/lib.rt:137:1
 returns-3 : tie.Need-returns-3
-returns-3 c = λ e. record { within = search needs; first = search needs; second = eqb-true _ _ e }
+returns-3 c = starts-second _ _ _ _ (search needs) (search needs)
 
 pub starts-with-spec : {M : Type 1} → statement M
 starts-with-spec =

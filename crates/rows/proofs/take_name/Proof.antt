@@ -1,9 +1,8 @@
-use mathlib.Core.Path.{refl}
+use mathlib.Core.Path.{sym, _∙_}
 use native.Mathlib.Omega.{arith}
 use borrow.Author.Needs.{needs}
-use borrow.Author.Tests.{not-false}
-use Rattle.rows.specs.Take.{Starts}
-use Rattle.rows.proofs.Take.{starts-name}
+use borrow.Author.Tests.{not-true, not-false}
+use Rattle.rows.proofs.Take.{Starts, starts-is, name-unstarted, name-line-taken, name-line-left}
 use Rattle.rows.proofs.take_name.Statement.{statement}
 use Rattle.rows.proofs.take_name.Tie as tie
 use Rattle.rows.proofs.take_name.Reads as reads
@@ -17,10 +16,10 @@ starts-with-requires c κs = search needs
 
 -- src/lib.rt:156:9
 returns : tie.Need-returns
-returns c = λ h. absurd (omega arith)
+returns c = name-unstarted _ _ (sym (c .before .starts-with .ensures) ∙ not-true _ (c .if1 .taken))
 
 started : (c : tie.Else1) → Starts (c .before .before .before .args .s .now) (c .before .before .before .args .from) 74 19
-started c = c .before .starts-with .ensures (not-false _ (c .if1 .left))
+started c = starts-is _ _ _ _ (sym (c .before .starts-with .ensures) ∙ not-false _ (c .if1 .left))
 
 -- src/lib.rt:158:32
 add-take-name : tie.Need-add-take-name
@@ -36,11 +35,11 @@ add-if2 c = search needs
 
 -- src/lib.rt:160:9
 returns-2 : tie.Need-returns-2
-returns-2 c = λ h. starts-name (started (c .before .before)) (omega arith) (omega arith) refl _ (c .if2 .taken) (c .before .take-name .ensures (c .if2 .taken))
+returns-2 c = c .before .take-name .ensures ∙ name-line-taken _ _ (started (c .before .before)) (omega (arith, c .before .take-name .ensures))
 
 -- src/lib.rt:151:1
 returns-3 : tie.Need-returns-3
-returns-3 c = λ h. absurd (omega arith)
+returns-3 c = name-line-left _ _ (started (c .before .before)) (omega (arith, c .before .take-name .ensures))
 
 pub take-name-spec : {M : Type 1} → statement M
 take-name-spec =

@@ -1,6 +1,7 @@
 use mathlib.Core.Path.{sym}
 use native.Mathlib.Omega.{arith}
 use Rattle.text.proofs.Scanned.{line-tabs, line-from}
+use Rattle.rows.proofs.Take.{name-line}
 use borrow.Author.Needs.{needs}
 use Rattle.sheet.proofs.Body.{name-missing, name-read}
 use Rattle.sheet.proofs.read_name.Statement.{statement}
@@ -17,11 +18,11 @@ take-name-requires c κs = search needs
 
 -- src/lib.rt:54:19
 add-t10 : tie.Need-add-t10
-add-t10 c = omega (arith, c .before .take-name .ensures (c .if1 .taken) .ended)
+add-t10 c = omega (arith, name-line _ _ _ (c .before .take-name .ensures) (c .if1 .taken) .ended)
 
 -- src/lib.rt:52:9
 returns : tie.Need-returns
-returns c = let z = c .before .take-name .ensures (c .if1 .taken) in name-read (z .line) (z .ended) _ (sym (z .sound))
+returns c = let z = name-line _ _ _ (c .before .take-name .ensures) (c .if1 .taken) in name-read (z .line) (z .ended) _ (sym (z .sound))
 
 -- src/lib.rt:57:9
 scan-line-requires : tie.Need-scan-line-requires
