@@ -1,6 +1,7 @@
 -- Laws of lines and their places in the store: what each test of the reader says.
 -- Assumes nothing.
 use mathlib.Core.Path.{_≡_, refl, ap, sym, _∙_}
+use mathlib.Core.Bool.{true}
 use mathlib.Core.List.{List, [], _∷_}
 use Prim.Native.Nat.{ℕ, suc, _+_, _-_, _≤_, _<_}
 use native.Mathlib.Omega.{arith}
@@ -10,7 +11,7 @@ use types.Run.{OneOf, miss}
 use denote.Enum.Declared.{tagOf}
 use Rattle.rows.proofs.Fault.{the-type}
 use Rattle.thermal.specs.Thermal.{steadyState}
-use Rattle.text.specs.Text.{until, part}
+use Rattle.text.specs.Text.{until, beyond, ahead, part}
 use Rattle.text.specs.Line.{LineAt}
 use Rattle.text.specs.declared.Line.{Line}
 use Rattle.text.proofs.Scanned.{line-part, line-ahead, line-missing, line-beyond}
@@ -19,7 +20,6 @@ use Rattle.rows.specs.declared.Fault.{Fault}
 use Rattle.rows.specs.declared.Fault.the-variants.{Sound, Shape, Form, Range}
 use Rattle.lines.specs.declared.Kind.{Kind}
 use Rattle.lines.specs.declared.Kind.the-variants.{Level, Change, Work}
-use Rattle.lines.specs.Take.{LineTaken, Going}
 use Rattle.lines.specs.Lines.{after, steadyRow, levelRow, changeRow, workRow, rowFor, put, placesOf, blockFrom, Reads}
 
 -- A fault that is not `Sound`, as a match leaves it.
@@ -124,6 +124,23 @@ module _ (kind : Kind) (k : ℕ) (h : k < placesOf kind) where
 
 -- ---- a block of n lines, j of them read
 
+-- The line of the text s that starts at place p says a sound row, its values were put in row place k of the store of figures,
+-- and the next line starts at place q.
+pub record LineTaken (s : List ℕ) (p : ℕ) (row : List ℕ → Row) (kind : Kind) (k : ℕ) (old new : List ℕ) (q : ℕ) : Type 0 where
+  pub ends : ahead 10 (drop p s) ≡ true
+  pub sound : (row (until 10 (drop p s))) .fault ≡ Sound
+  pub stored : new ≡ put kind k ((row (until 10 (drop p s))) .values) old
+  pub next : beyond 10 (drop p s) ≡ drop q s
+  pub within : q ≤ length s
+
+-- Of a block of n lines of a kind, the first of which starts at place `at` of the text s, j lines are read, and the next one
+-- starts at place p.
+pub record Going (s : List ℕ) (at : ℕ) (kind : Kind) (b n : ℕ) (old store : List ℕ) (p j : ℕ) : Type 0 where
+  pub most : j ≤ n
+  pub within : p ≤ length s
+  pub long : length store ≡ 1672
+  pub rest : (line : ℕ) → blockFrom kind b n 0 (drop at s) line old ≡ blockFrom kind b (n - j) j (drop p s) (line + j) store
+
 -- A sound line of which the values were put.
 pub line-taken : {s : List ℕ} {p : ℕ} {r : Line} → LineAt s p r → r .end < length s → (f : List ℕ → Row) (row : Row) → row ≡ f (part p (r .end) s) →
     row .fault ≡ Sound → (kind : Kind) (k : ℕ) (old new : List ℕ) → new ≡ put kind k (row .values) old → LineTaken s p f kind k old new (r .end + 1)
@@ -144,9 +161,6 @@ going-none s at kind b n old h l =
     record { most = omega arith; within = h; long = l; rest = λ line. let y : line + 0 ≡ line = omega arith in rw (z, y) refl }
 
 module _ {s : List ℕ} {at : ℕ} {kind : Kind} {b n : ℕ} {old store : List ℕ} {p j : ℕ} (g : Going s at kind b n old store p j) where
-  pub going-same : {new : List ℕ} → new ≡ store → Going s at kind b n old new p j
-  going-same e = rw e g
-
   -- One line more.
   pub going-on : j < n → {new : List ℕ} {q : ℕ} → LineTaken s p (rowFor kind j) kind (b + j) store new q → Going s at kind b n old new q (j + 1)
   unfolding blockFrom

@@ -1,36 +1,57 @@
--- What is known of lines that are taken in one pass over their bytes.
+-- Which lines of a kind are taken in one pass over their bytes, and what they leave.
 -- Assumes nothing.
 use mathlib.Core.Path.{_≡_}
-use mathlib.Core.Bool.{true}
+use mathlib.Core.Bool.{Bool, cond}
 use mathlib.Core.List.{List}
-use Prim.Native.Nat.{ℕ, _+_, _-_, _≤_}
-use lib.ListN.{length, drop}
-use Rattle.text.specs.Text.{until, beyond, ahead}
-use Rattle.rows.specs.Row.{Row}
-use Rattle.rows.specs.declared.Fault.the-variants.{Sound}
+use Prim.Native.Nat.{ℕ, zero, suc, _+_}
+use lib.ListN.{drop}
+use Rattle.text.specs.Text.{before, until}
+use Rattle.rows.specs.Take.{isTaken}
 use Rattle.lines.specs.declared.Kind.{Kind}
+use Rattle.lines.specs.declared.Kind.the-variants.{Level, Change, Work}
 use Rattle.lines.specs.declared.Next.{Next}
 use Rattle.lines.specs.declared.Next.the-variants.{Line, Other}
-use Rattle.lines.specs.Lines.{put, blockFrom}
+use Rattle.lines.specs.declared.Progress.{Progress}
+use Rattle.lines.specs.Lines.{rowFor, put}
 
--- The line of the text s that starts at place p says a sound row, its values were put in row place k of the store of figures,
--- and the next line starts at place q.
-pub record LineTaken (s : List ℕ) (p : ℕ) (row : List ℕ → Row) (kind : Kind) (k : ℕ) (old new : List ℕ) (q : ℕ) : Type 0 where
-  pub ends : ahead 10 (drop p s) ≡ true
-  pub sound : (row (until 10 (drop p s))) .fault ≡ Sound
-  pub stored : new ≡ put kind k ((row (until 10 (drop p s))) .values) old
-  pub next : beyond 10 (drop p s) ≡ drop q s
-  pub within : q ≤ length s
+-- How many bytes the text must have where a line of a kind is taken: the letter, the byte 9 behind it and, for each number, 8
+-- digits and the byte behind them.
+abbrev pub roomOf : Kind → ℕ
+roomOf (Level resistance) = 11
+roomOf (Change p) = 20
+roomOf Work = 29
 
--- A line was taken, or the store is as it was.
-abbrev pub TakesLine : List ℕ → ℕ → (List ℕ → Row) → Kind → ℕ → List ℕ → List ℕ → Next → Type 0
-TakesLine s p row kind k old new (Line q) = LineTaken s p row kind k old new q
-TakesLine s p row kind k old new Other = new ≡ old
+-- Line j, from 0, of the lines of a kind is taken of the text s at place p.
+unfoldable pub takesLine : Kind → ℕ → List ℕ → ℕ → Bool
+takesLine kind j s p = isTaken s p (roomOf kind) (λ line. (rowFor kind j line) .fault)
 
--- Of a block of n lines of a kind, the first of which starts at place `at` of the text s, j lines are read, and the next one
--- starts at place p.
-pub record Going (s : List ℕ) (at : ℕ) (kind : Kind) (b n : ℕ) (old store : List ℕ) (p j : ℕ) : Type 0 where
-  pub most : j ≤ n
-  pub within : p ≤ length s
-  pub long : length store ≡ 1672
-  pub rest : (line : ℕ) → blockFrom kind b n 0 (drop at s) line old ≡ blockFrom kind b (n - j) j (drop p s) (line + j) store
+-- Where the line behind the one at place p starts.
+unfoldable pub lineAfter : List ℕ → ℕ → ℕ
+lineAfter s p = p + before 10 (drop p s) + 1
+
+-- The store of figures with the values of line j, at place p, put in row place k, where that line is taken.
+unfoldable pub storeAfter : Kind → ℕ → List ℕ → ℕ → ℕ → List ℕ → List ℕ
+storeAfter kind j s p k st = cond (takesLine kind j s p) (put kind k ((rowFor kind j (until 10 (drop p s))) .values) st) st
+
+-- Line j is taken, and the store is new, or none is, and the store is the old one.
+pub record TakesLine (kind : Kind) (j : ℕ) (s : List ℕ) (p k : ℕ) (old new : List ℕ) (r : Next) : Type 0 where
+  pub next : r ≡ cond (takesLine kind j s p) (Line (lineAfter s p)) Other
+  pub store : new ≡ storeAfter kind j s p k old
+
+-- Lines that were taken: how many of their block, the place of the next one, and the store.
+pub record Took : Type 0 where
+  pub lines : ℕ
+  pub at : ℕ
+  pub store : List ℕ
+
+-- The lines that are taken of the next n lines of a kind, up to one that is not: line j is the first of them and starts at place p
+-- of the text s; their figures go to row places from b + j on of the store.
+unfoldable pub takenFrom : Kind → ℕ → ℕ → ℕ → List ℕ → ℕ → List ℕ → Took
+takenFrom kind b zero j s p st = record { lines = j; at = p; store = st }
+takenFrom kind b (suc n) j s p st =
+    cond (takesLine kind j s p) (takenFrom kind b n (j + 1) s (lineAfter s p) (storeAfter kind j s p (b + j) st))
+    (record { lines = j; at = p; store = st })
+
+-- What was taken, with the store that it left.
+abbrev pub tookIn : Progress → List ℕ → Took
+tookIn r st = record { lines = r .lines; at = r .at; store = st }

@@ -4,8 +4,8 @@ ghost use lib.ListN.{length, drop};
 ghost use Rattle.text.specs.Text.{part, count};
 ghost use Rattle.rows.specs.Row.{numbersIn};
 ghost use Rattle.lines.specs.declared.Kind.the-variants.{Level, Change, Work};
-ghost use Rattle.lines.specs.Lines.{levelRow, changeRow, workRow, rowFor, put, placesOf, blockFrom, Reads};
-ghost use Rattle.lines.specs.Take.{TakesLine, Going};
+ghost use Rattle.lines.specs.Lines.{levelRow, rowFor, put, placesOf, blockFrom, Reads};
+ghost use Rattle.lines.specs.Take.{TakesLine, takenFrom, tookIn};
 use rows::Fault;
 use rows::Numbers;
 use text::Taken;
@@ -125,7 +125,7 @@ pub fn put_row(store: &mut [u32], kind: Kind, k: usize, values: [u32; 10])
 // digits and the byte behind them.
 fn take_level(s: &[u8], from: usize, resistance: u32, k: usize, store: &mut [u32]) -> Next
     requires { ⌜ (from ≤ length (now s)) × (k < 8) × (length (now store) ≡ 1672) ⌝ }
-    ensures { λ r. ⌜ TakesLine (now (s .entry)) from (levelRow resistance) (Level resistance) k (now (store .entry)) (now (store .exit)) r ⌝ }
+    ensures { λ r. ⌜ TakesLine (Level resistance) 0 (now (s .entry)) from k (now (store .entry)) (now (store .exit)) r ⌝ }
 {
     if !rows::starts_with(s, from, b'L', 11) {
         return Next::Other;
@@ -151,7 +151,7 @@ fn take_change(
     store: &mut [u32],
 ) -> Next
     requires { ⌜ (from ≤ length (now s)) × (k < 64) × (length (now store) ≡ 1672) ⌝ }
-    ensures { λ r. ⌜ TakesLine (now (s .entry)) from (changeRow left entered) (Change left) k (now (store .entry)) (now (store .exit)) r ⌝ }
+    ensures { λ r. ⌜ TakesLine (Change left) entered (now (s .entry)) from k (now (store .entry)) (now (store .exit)) r ⌝ }
 {
     if !rows::starts_with(s, from, b'S', 20) {
         return Next::Other;
@@ -173,7 +173,7 @@ fn take_change(
 // Takes a B line, to row place k of the store.
 fn take_work(s: &[u8], from: usize, k: usize, store: &mut [u32]) -> Next
     requires { ⌜ (from ≤ length (now s)) × (k < 512) × (length (now store) ≡ 1672) ⌝ }
-    ensures { λ r. ⌜ TakesLine (now (s .entry)) from workRow Work k (now (store .entry)) (now (store .exit)) r ⌝ }
+    ensures { λ r. ⌜ TakesLine Work 0 (now (s .entry)) from k (now (store .entry)) (now (store .exit)) r ⌝ }
 {
     if !rows::starts_with(s, from, b'B', 29) {
         return Next::Other;
@@ -199,7 +199,7 @@ fn take_work(s: &[u8], from: usize, k: usize, store: &mut [u32]) -> Next
 // Takes line i, from 0, of the lines of a kind, to row place k of the store.
 fn take_line(s: &[u8], from: usize, kind: Kind, i: usize, k: usize, store: &mut [u32]) -> Next
     requires { ⌜ (from ≤ length (now s)) × (k < placesOf kind) × (length (now store) ≡ 1672) ⌝ }
-    ensures { λ r. ⌜ TakesLine (now (s .entry)) from (rowFor kind i) kind k (now (store .entry)) (now (store .exit)) r ⌝ }
+    ensures { λ r. ⌜ TakesLine kind i (now (s .entry)) from k (now (store .entry)) (now (store .exit)) r ⌝ }
 {
     match kind {
         Kind::Level(resistance) => take_level(s, from, resistance, k, store),
@@ -211,7 +211,7 @@ fn take_line(s: &[u8], from: usize, kind: Kind, i: usize, k: usize, store: &mut 
 // Takes the lines of a block of n lines of a kind, the first of which starts at `at`, up to one that is not taken.
 fn take_lines(s: &[u8], at: usize, kind: Kind, base: usize, n: usize, store: &mut [u32]) -> Progress
     requires { ⌜ (at ≤ length (now s)) × (base + n ≤ placesOf kind) × (length (now store) ≡ 1672) ⌝ }
-    ensures { λ r. ⌜ Going (now (s .entry)) at kind base n (now (store .entry)) (now (store .exit)) (r .at) (r .lines) ⌝ }
+    ensures { λ r. ⌜ tookIn r (now (store .exit)) ≡ takenFrom kind base n 0 (now (s .entry)) at (now (store .entry)) ⌝ }
 {
     let mut p = at;
     let mut j: usize = 0;

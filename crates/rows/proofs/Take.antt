@@ -18,7 +18,7 @@ use Rattle.text.specs.declared.Taken.the-variants.{Other}
 use Rattle.text.proofs.Text.{before-byte, until-byte, until-hit, until-pass, count-ahead, drop-here, length-until, ahead-lt, lt-ahead}
 use Rattle.text.proofs.Scanned.{line-part}
 use Rattle.text.proofs.Number.{all-none, all-on}
-use Rattle.text.proofs.Take.{clash, cond-true, not-both, number-all, number-few, name-all, name-some, all-count, Onward, onward, first-field, one-field, Short, NumberAt, taken-so, name-so, name-taken}
+use Rattle.text.proofs.Take.{clash, cond-true, not-so, number-all, number-few, name-all, name-some, all-count, Onward, onward, first-field, one-field, Short, NumberAt, taken-so, name-so, name-taken}
 use Rattle.rows.specs.declared.Fault.{Fault}
 use Rattle.rows.specs.declared.Fault.the-variants.{Sound, Shape, Form, Range}
 use Rattle.rows.specs.Row.{Row, opens, numbersFrom, rowOf, nameFault}
@@ -73,11 +73,7 @@ module _ (s : List ℕ) (p letter room : ℕ) where
   starts-so z = rw (le-leb _ _ (z .within), eq-eqb _ _ (z .first), eq-eqb _ _ (z .second)) refl
 
   pub starts-not : (Starts s p letter room → ⊥) → false ≡ starts s p letter room
-  starts-not n = go (starts s p letter room) refl
-    where
-      go : (b : Bool) → starts s p letter room ≡ b → false ≡ b
-      go true e = absurd (n (starts-is e))
-      go false e = refl
+  starts-not n = sym (not-so _ (λ e. n (starts-is e)))
 
   -- Where the room and the letter are there, the byte behind it decides.
   pub starts-second : p + room ≤ length s → getD s p 0 ≡ letter → eqb (getD s (p + 1) 0) 9 ≡ starts s p letter room
@@ -230,7 +226,7 @@ module _ {s : List ℕ} {from letter k : ℕ} {los his : List ℕ} {j p : ℕ} {
 module _ (s : List ℕ) (from : ℕ) where
   pub name-line-none : (isTaken s from 19 nameFault ≡ true → ⊥) → from ≡ nameLineEnd s from
   unfolding nameLineEnd
-  name-line-none n = sym (not-both true (isTaken s from 19 nameFault) _ _ (λ a. n))
+  name-line-none n = rw (not-so _ n) refl
 
   -- A name line has its letter, and its name.
   name-parts : SoundAt s from 19 nameFault → (opens 74 1 (until 10 (drop from s)) ≡ true) × (isName (beyond 9 (until 10 (drop from s))) ≡ true)

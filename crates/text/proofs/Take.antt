@@ -32,6 +32,11 @@ cond-else : (a b : Bool) → cond a false b ≡ true → (a ≡ false) × (b ≡
 cond-else true b e = let z = clash (sym e) in absurd (omega arith)
 cond-else false b e = (refl, e)
 
+-- A test that leads to what is false.
+pub not-so : (b : Bool) → (b ≡ true → ⊥) → b ≡ false
+not-so true n = absurd (n refl)
+not-so false n = refl
+
 -- Two tests that are not both passed.
 pub not-both : {X : Type 0} (a b : Bool) (x y : X) → (a ≡ true → b ≡ true → ⊥) → cond a (cond b x y) y ≡ y
 not-both true true x y n = absurd (n refl refl)

@@ -4,8 +4,8 @@ use native.Mathlib.Omega.{arith}
 use borrow.Author.Needs.{needs}
 use Rattle.text.proofs.Scanned.{line-tabs, line-from}
 use Rattle.lines.specs.Lines.{rowFor}
-use Rattle.lines.specs.Take.{Going}
-use Rattle.lines.proofs.Lines.{line-taken, going-all, going-missing, going-fault, going-on, places-most}
+use Rattle.lines.proofs.Lines.{Going, line-taken, going-all, going-missing, going-fault, going-on, places-most}
+use Rattle.lines.proofs.Take.{going-took}
 use Rattle.lines.proofs.read_block.Statement.{statement}
 use Rattle.lines.proofs.read_block.Tie as tie
 use Rattle.lines.proofs.read_block.Reads as reads
@@ -30,12 +30,12 @@ loop-holds : tie.Need-loop-holds Inv-loop μ-loop
 loop-holds c = λ old g. g
 
 -- The lines that were taken, and those that were read behind them.
-so-far : (c : tie.In-loop Inv-loop μ-loop) → let a = c .before .before .before .before .before .before .before .before .args in let l = c .before .loop in Going (a .s .now) (a .at) (a .kind) (a .base) (a .n) (a .store .now) (l .store) (l .p) (l .j)
-so-far c = c .before .loop .inv _ (c .before .before .before .before .take-lines .ensures)
+so-far : (c : tie.At-loop Inv-loop μ-loop) → let a = c .before .before .before .before .before .before .before .args in let l = c .loop in Going (a .s .now) (a .at) (a .kind) (a .base) (a .n) (a .store .now) (l .store) (l .p) (l .j)
+so-far c = c .loop .inv _ (going-took _ _ _ _ _ _ (search needs) (search needs) _ (c .before .before .before .take-lines .ensures))
 
 -- src/lib.rt:230:13
 scan-line-requires : tie.Need-scan-line-requires Inv-loop μ-loop
-scan-line-requires c κs = so-far c .within
+scan-line-requires c κs = so-far (c .before) .within
 
 -- src/lib.rt:235:23
 add-t22 : tie.Need-add-t22 Inv-loop μ-loop
@@ -43,11 +43,11 @@ add-t22 c = search needs
 
 -- src/lib.rt:233:13
 same-length : tie.Need-same-length Inv-loop μ-loop
-same-length c = let h = so-far (c .before .before) .long in search needs
+same-length c = let h = so-far (c .before .before .before) .long in search needs
 
 -- src/lib.rt:233:13
 returns : tie.Need-returns Inv-loop μ-loop
-returns c = going-missing (so-far (c .before .before)) _ (search needs) _ (c .before .scan-line .ensures) (search needs)
+returns c = going-missing (so-far (c .before .before .before)) _ (search needs) _ (c .before .scan-line .ensures) (search needs)
 
 -- src/lib.rt:240:13
 read-line-requires : tie.Need-read-line-requires Inv-loop μ-loop
@@ -62,11 +62,11 @@ add-t23 c = search needs
 
 -- src/lib.rt:243:13
 same-length-2 : tie.Need-same-length-2 Inv-loop μ-loop
-same-length-2 c = let h = so-far (c .before .before .before .before) .long in search needs
+same-length-2 c = let h = so-far (c .before .before .before .before .before) .long in search needs
 
 -- src/lib.rt:243:13
 returns-2 : tie.Need-returns-2 Inv-loop μ-loop
-returns-2 c = going-fault (so-far (c .before .before .before .before)) _ (search needs) _ (c .before .before .before .scan-line .ensures) (search needs) _ (c .before .read-line .ensures) (c .match .keys2)
+returns-2 c = going-fault (so-far (c .before .before .before .before .before)) _ (search needs) _ (c .before .before .before .scan-line .ensures) (search needs) _ (c .before .read-line .ensures) (c .match .keys2)
 
 -- src/lib.rt:250:30
 add-put-row : tie.Need-add-put-row Inv-loop μ-loop
@@ -74,7 +74,7 @@ add-put-row c = omega (arith, places-most (c .before .before .before .before .be
 
 -- src/lib.rt:250:9
 put-row-requires : tie.Need-put-row-requires Inv-loop μ-loop
-put-row-requires c κs = (so-far (c .before .before .before .before .before .before .before) .long, omega (arith, c .before .before .before .before .before .before .before .before .before .before .before .before .before .before .before .pre))
+put-row-requires c κs = (so-far (c .before .before .before .before .before .before .before .before) .long, omega (arith, c .before .before .before .before .before .before .before .before .before .before .before .before .before .before .before .pre))
 
 -- src/lib.rt:251:13
 add-p : tie.Need-add-p Inv-loop μ-loop
@@ -102,11 +102,11 @@ add-t28 c = search needs
 
 -- src/lib.rt:214:1
 same-length-3 : tie.Need-same-length-3 Inv-loop μ-loop
-same-length-3 c = let h = c .before .loop .inv _ (c .before .before .before .before .take-lines .ensures) .long in search needs
+same-length-3 c = let h = so-far (c .before) .long in search needs
 
 -- src/lib.rt:214:1
 returns-3 : tie.Need-returns-3 Inv-loop μ-loop
-returns-3 c = going-all (c .before .loop .inv _ (c .before .before .before .before .take-lines .ensures)) _ (search needs)
+returns-3 c = going-all (so-far (c .before)) _ (search needs)
 
 pub read-block-spec : {M : Type 1} → statement M
 read-block-spec =

@@ -1,13 +1,15 @@
+use mathlib.Core.Path.{_≡_, refl, sym, _∙_}
+use mathlib.Core.Bool.{cond}
 use mathlib.Core.Logic.{⊎-elim}
 use Prim.Native.Nat.{_+_}
+use lib.Dec.{eqb}
 use lib.ListN.{length-set}
 use native.Mathlib.Omega.{arith}
 use borrow.Author.Needs.{needs}
-use borrow.Author.Tests.{not-false}
-use Rattle.text.specs.Take.{NumberAt}
-use Rattle.text.proofs.Take.{number-taken}
-use Rattle.rows.specs.Take.{Starts}
-use Rattle.lines.proofs.Take.{most-self, most-other, change-taken}
+use borrow.Author.Tests.{not-true, not-false}
+use Rattle.text.proofs.Take.{NumberAt, taken-number}
+use Rattle.rows.proofs.Take.{Starts, starts-is}
+use Rattle.lines.proofs.Take.{most-self, most-other, change-unstarted, change-time, change-energy, change-taken}
 use Rattle.lines.proofs.take_change.Statement.{statement}
 use Rattle.lines.proofs.take_change.Tie as tie
 use Rattle.lines.proofs.take_change.Reads as reads
@@ -21,19 +23,25 @@ starts-with-requires c κs = search needs
 
 -- src/lib.rt:141:9
 returns : tie.Need-returns
-returns c = search needs
+returns c = change-unstarted _ _ _ refl _ _ _ _ (sym (c .before .starts-with .ensures) ∙ not-true _ (c .if1 .taken))
 
 -- The line starts with its letter.
 started : (c : tie.Else1) → Starts (c .before .before .before .before .args .s .now) (c .before .before .before .before .args .from) 83 20
-started c = c .before .starts-with .ensures (not-false _ (c .if1 .left))
+started c = starts-is _ _ _ _ (sym (c .before .starts-with .ensures) ∙ not-false _ (c .if1 .left))
+
+-- The upper end of its figures.
+most-is : (c : tie.Joined2) → let a = c .before .before .before .before .before .args in c .if2 .most ≡ cond (eqb (a .entered) (a .left)) 0 10000000
+most-is c =
+    let a = c .before .before .before .before .before .args in
+    ⊎-elim (λ w. most-self (a .left) (a .entered) _ (search needs) (w .1)) (λ w. most-other (a .left) (a .entered) _ (search needs) (w .1)) (c .if2 .came)
 
 -- Its first number.
 time : (c : tie.After-f) → NumberAt (c .before .before .before .before .before .before .before .before .args .s .now) (c .before .before .before .before .before .before .before .before .args .from + 2) 9 0 (c .before .before .before .if2 .most) (c .f .given .0 .0) (c .f .given .0 .1 .0)
-time c = number-taken _ (c .before .before .take-number .ensures) (c .f .given .1)
+time c = taken-number _ _ _ _ _ _ _ (sym (c .before .before .take-number .ensures) ∙ c .f .given .1)
 
 -- Its second number.
 energy : (c : tie.After-g) → NumberAt (c .before .before .before .before .before .before .before .before .before .before .before .before .args .s .now) (c .before .before .before .before .f .given .0 .1 .0 + 1) 10 0 (c .before .before .before .before .before .before .before .if2 .most) (c .g .given .0 .0) (c .g .given .0 .1 .0)
-energy c = number-taken _ (c .before .before .take-number2 .ensures) (c .g .given .1)
+energy c = taken-number _ _ _ _ _ _ _ (sym (c .before .before .take-number2 .ensures) ∙ c .g .given .1)
 
 -- src/lib.rt:144:34
 add-take-number : tie.Need-add-take-number
@@ -53,7 +61,7 @@ enum-told c = search needs
 
 -- src/lib.rt:146:9
 returns-2 : tie.Need-returns-2
-returns-2 c = search needs
+returns-2 c = change-time _ _ _ (most-is (c .before .before .before)) _ _ _ _ (started (c .before .before .before .before)) (sym (c .before .before .take-number .ensures) ∙ c .enum-told .given .1)
 
 -- src/lib.rt:148:34
 add-take-number-2 : tie.Need-add-take-number-2
@@ -73,7 +81,7 @@ enum-told-2 c = search needs
 
 -- src/lib.rt:150:9
 returns-3 : tie.Need-returns-3
-returns-3 c = search needs
+returns-3 c = change-energy _ _ _ (most-is (c .before .before .before .before .before .before .before)) _ _ _ _ (started (c .before .before .before .before .before .before .before .before)) (time (c .before .before .before .before)) (sym (c .before .before .take-number2 .ensures) ∙ c .enum-told2 .given .1)
 
 -- src/lib.rt:152:11
 add-store : tie.Need-add-store
@@ -110,9 +118,7 @@ same-length c = search needs
 -- src/lib.rt:136:1
 returns-4 : tie.Need-returns-4
 returns-4 c =
-    let a = c .before .before .before .before .before .before .before .before .before .before .before .before .before .args in
-    change-taken _ _ (a .left) (a .entered) _
-    (⊎-elim (λ w. most-self (a .left) (a .entered) _ (search needs) (w .1)) (λ w. most-other (a .left) (a .entered) _ (search needs) (w .1)) (c .before .before .before .before .before .before .before .before .if2 .came))
+    change-taken _ _ _ (most-is (c .before .before .before .before .before .before .before .before)) _ _ _ _
     (started (c .before .before .before .before .before .before .before .before .before)) (time (c .before .before .before .before .before)) (energy (c .before))
 
 pub take-change-spec : {M : Type 1} → statement M

@@ -1,11 +1,11 @@
+use mathlib.Core.Path.{sym, _∙_}
 use Prim.Native.Nat.{_+_}
 use native.Mathlib.Omega.{arith}
 use borrow.Author.Needs.{needs}
-use borrow.Author.Tests.{not-false}
-use Rattle.text.specs.Take.{NumberAt}
-use Rattle.text.proofs.Take.{number-taken}
-use Rattle.rows.specs.Take.{Starts}
-use Rattle.lines.proofs.Take.{level-taken}
+use borrow.Author.Tests.{not-true, not-false}
+use Rattle.text.proofs.Take.{NumberAt, taken-number}
+use Rattle.rows.proofs.Take.{Starts, starts-is}
+use Rattle.lines.proofs.Take.{level-unstarted, level-number, level-warm, level-taken}
 use Rattle.lines.proofs.take_level.Statement.{statement}
 use Rattle.lines.proofs.take_level.Tie as tie
 use Rattle.lines.proofs.take_level.Reads as reads
@@ -20,15 +20,15 @@ starts-with-requires c κs = search needs
 
 -- src/lib.rt:122:9
 returns : tie.Need-returns
-returns c = search needs
+returns c = level-unstarted _ _ _ _ _ (sym (c .before .starts-with .ensures) ∙ not-true _ (c .if1 .taken))
 
 -- The line starts with its letter.
 started : (c : tie.Else1) → Starts (c .before .before .before .before .args .s .now) (c .before .before .before .before .args .from) 76 11
-started c = c .before .starts-with .ensures (not-false _ (c .if1 .left))
+started c = starts-is _ _ _ _ (sym (c .before .starts-with .ensures) ∙ not-false _ (c .if1 .left))
 
 -- Its number.
 power : (c : tie.After-f) → NumberAt (c .before .before .before .before .before .before .before .args .s .now) (c .before .before .before .before .before .before .before .args .from + 2) 10 0 100000 (c .f .given .0 .0) (c .f .given .0 .1 .0)
-power c = number-taken _ (c .before .before .take-number .ensures) (c .f .given .1)
+power c = taken-number _ _ _ _ _ _ _ (sym (c .before .before .take-number .ensures) ∙ c .f .given .1)
 
 -- src/lib.rt:124:34
 add-take-number : tie.Need-add-take-number
@@ -48,7 +48,7 @@ enum-told c = search needs
 
 -- src/lib.rt:126:9
 returns-2 : tie.Need-returns-2
-returns-2 c = search needs
+returns-2 c = level-number _ _ _ _ _ (started (c .before .before .before)) (sym (c .before .before .take-number .ensures) ∙ c .enum-told .given .1)
 
 -- src/lib.rt:128:17
 steady-state-requires : tie.Need-steady-state-requires
@@ -56,7 +56,7 @@ steady-state-requires c κs = search needs
 
 -- src/lib.rt:129:9
 returns-3 : tie.Need-returns-3
-returns-3 c = search needs
+returns-3 c = level-warm _ _ _ _ _ (started (c .before .before .before .before .before .before)) (power (c .before .before .before)) (rw (c .before .steady-state .ensures) at (c .if2 .taken))
 
 -- src/lib.rt:131:5
 mul-store : tie.Need-mul-store
@@ -76,7 +76,7 @@ same-length c = search needs
 
 -- src/lib.rt:117:1
 returns-4 : tie.Need-returns-4
-returns-4 c = level-taken _ _ _ (started (c .before .before .before .before .before .before)) (power (c .before .before .before)) (rw (c .before .steady-state .ensures) at (c .if2 .left))
+returns-4 c = level-taken _ _ _ _ _ (started (c .before .before .before .before .before .before)) (power (c .before .before .before)) (rw (c .before .steady-state .ensures) at (c .if2 .left))
 
 pub take-level-spec : {M : Type 1} → statement M
 take-level-spec =

@@ -1,7 +1,6 @@
 use borrow.Author.Needs.{needs}
-use Rattle.lines.specs.Lines.{rowFor}
 use Rattle.lines.proofs.Lines.{few-levels, few-changes, few-works}
-use Rattle.lines.proofs.Take.{takes-as}
+use Rattle.lines.proofs.Take.{takes-level, takes-change, takes-work}
 use Rattle.lines.proofs.take_line.Statement.{statement}
 use Rattle.lines.proofs.take_line.Tie as tie
 use Rattle.lines.proofs.take_line.Reads as reads
@@ -40,8 +39,7 @@ same-length c = search needs
 
 -- src/lib.rt:184:1
 returns : tie.Need-returns
-unfolding rowFor
-returns c = takes-as _ _ _ _ _ (c .before .before .take-level .result) _ _ _ (c .before .before .before .before .before .kind .given .1) (c .before .before .take-level .ensures)
+returns c = takes-level _ _ _ (c .before .before .before .before .before .kind .given .1) (c .before .before .take-level .ensures)
 
 -- src/lib.rt:184:1
 same-length-2 : tie.Need-same-length-2
@@ -49,8 +47,7 @@ same-length-2 c = search needs
 
 -- src/lib.rt:184:1
 returns-2 : tie.Need-returns-2
-unfolding rowFor
-returns-2 c = takes-as _ _ _ _ _ (c .before .before .take-change .result) _ _ _ (c .before .before .before .before .before .kind2 .given .1) (c .before .before .take-change .ensures)
+returns-2 c = takes-change _ _ _ (c .before .before .before .before .before .kind2 .given .1) (c .before .before .take-change .ensures)
 
 -- src/lib.rt:184:1
 same-length-3 : tie.Need-same-length-3
@@ -58,8 +55,7 @@ same-length-3 c = search needs
 
 -- src/lib.rt:184:1
 returns-3 : tie.Need-returns-3
-unfolding rowFor
-returns-3 c = takes-as _ _ _ _ _ (c .before .before .take-work .result) _ _ _ (c .before .before .before .before .enum-told .given .1) (c .before .before .take-work .ensures)
+returns-3 c = takes-work _ _ (c .before .before .before .before .enum-told .given .1) (c .before .before .take-work .ensures)
 
 pub take-line-spec : {M : Type 1} → statement M
 take-line-spec =

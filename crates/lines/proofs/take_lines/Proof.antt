@@ -1,9 +1,8 @@
 use Prim.Native.Nat.{_-_}
 use native.Mathlib.Omega.{arith}
 use borrow.Author.Needs.{needs}
-use Rattle.lines.specs.Take.{Going}
-use Rattle.lines.proofs.Lines.{going-none, going-same, going-on, places-most}
-use Rattle.lines.proofs.Take.{next-taken, next-other}
+use Rattle.lines.proofs.Lines.{places-most}
+use Rattle.lines.proofs.Take.{TakingLines, lines-none, lines-on, lines-stop, lines-all, takes-next}
 use Rattle.lines.proofs.take_lines.Statement.{statement}
 use Rattle.lines.proofs.take_lines.Tie as tie
 use Rattle.lines.proofs.take_lines.Reads as reads
@@ -11,14 +10,14 @@ use Rattle.lines.proofs.take_lines.Lts as lts
 use Rattle.lines.proofs.take_line.Reads as take-line-reads
 
 abbrev Inv-loop : tie.InvT-loop
-Inv-loop s at kind base n store₀ p₀ j₀ store p j = Going s at kind base n store₀ store p j
+Inv-loop s at kind base n store₀ p₀ j₀ store p j = TakingLines s at kind base n store₀ store p j
 
 abbrev μ-loop : tie.MeasureT-loop
 μ-loop s at kind base n store₀ p₀ j₀ store p j = n - j
 
 -- src/lib.rt:202:5
 loop-holds : tie.Need-loop-holds Inv-loop μ-loop
-loop-holds c = going-none _ _ _ _ _ _ (search needs) (search needs)
+loop-holds c = lines-none _ _ _ _ _ _ (search needs) (search needs)
 
 -- src/lib.rt:203:42
 add-take-line : tie.Need-add-take-line Inv-loop μ-loop
@@ -46,7 +45,7 @@ loop-less c = search needs
 
 -- src/lib.rt:202:5
 loop-again : tie.Need-loop-again Inv-loop μ-loop
-loop-again c = going-on (c .before .before .before .before .before .before .before .before .loop .inv) (search needs) (next-taken _ _ _ _ _ _ _ _ (c .before .before .before .before .before .take-line .ensures) (c .before .t .given .1))
+loop-again c = lines-on (c .before .before .before .before .before .before .before .before .loop .inv) (search needs) _ (takes-next (c .before .t .given .1) (c .before .before .before .before .before .take-line .ensures))
 
 -- src/lib.rt:196:1
 same-length : tie.Need-same-length Inv-loop μ-loop
@@ -54,7 +53,7 @@ same-length c = search needs
 
 -- src/lib.rt:196:1
 returns : tie.Need-returns Inv-loop μ-loop
-returns c = c .before .loop .inv
+returns c = lines-all (c .before .loop .inv) (search needs)
 
 -- src/lib.rt:196:1
 same-length-2 : tie.Need-same-length-2 Inv-loop μ-loop
@@ -62,7 +61,7 @@ same-length-2 c = search needs
 
 -- src/lib.rt:196:1
 returns-2 : tie.Need-returns-2 Inv-loop μ-loop
-returns-2 c = going-same (c .before .before .before .before .before .before .before .loop .inv) (next-other _ _ _ _ _ _ _ _ (c .before .before .before .before .take-line .ensures) (c .enum-told .given .1))
+returns-2 c = lines-stop (c .before .before .before .before .before .before .before .loop .inv) (search needs) (takes-next (c .enum-told .given .1) (c .before .before .before .before .take-line .ensures))
 
 pub take-lines-spec : {M : Type 1} → statement M
 take-lines-spec =

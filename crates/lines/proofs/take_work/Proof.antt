@@ -1,12 +1,12 @@
+use mathlib.Core.Path.{sym, _∙_}
 use Prim.Native.Nat.{_+_}
 use lib.ListN.{length-set}
 use native.Mathlib.Omega.{arith}
 use borrow.Author.Needs.{needs}
-use borrow.Author.Tests.{not-false}
-use Rattle.text.specs.Take.{NumberAt}
-use Rattle.text.proofs.Take.{number-taken}
-use Rattle.rows.specs.Take.{Starts}
-use Rattle.lines.proofs.Take.{work-taken}
+use borrow.Author.Tests.{not-true, not-false}
+use Rattle.text.proofs.Take.{NumberAt, taken-number}
+use Rattle.rows.proofs.Take.{Starts, starts-is}
+use Rattle.lines.proofs.Take.{work-unstarted, work-time, work-energy, work-decay, work-taken}
 use Rattle.lines.proofs.take_work.Statement.{statement}
 use Rattle.lines.proofs.take_work.Tie as tie
 use Rattle.lines.proofs.take_work.Reads as reads
@@ -20,23 +20,23 @@ starts-with-requires c κs = search needs
 
 -- src/lib.rt:163:9
 returns : tie.Need-returns
-returns c = search needs
+returns c = work-unstarted _ _ _ _ (sym (c .before .starts-with .ensures) ∙ not-true _ (c .if1 .taken))
 
 -- The line starts with its letter.
 started : (c : tie.Else1) → Starts (c .before .before .before .before .args .s .now) (c .before .before .before .before .args .from) 66 29
-started c = c .before .starts-with .ensures (not-false _ (c .if1 .left))
+started c = starts-is _ _ _ _ (sym (c .before .starts-with .ensures) ∙ not-false _ (c .if1 .left))
 
 -- Its first number.
 time : (c : tie.After-f) → NumberAt (c .before .before .before .before .before .before .before .args .s .now) (c .before .before .before .before .before .before .before .args .from + 2) 9 1 10000000 (c .f .given .0 .0) (c .f .given .0 .1 .0)
-time c = number-taken _ (c .before .before .take-number .ensures) (c .f .given .1)
+time c = taken-number _ _ _ _ _ _ _ (sym (c .before .before .take-number .ensures) ∙ c .f .given .1)
 
 -- Its second number.
 energy : (c : tie.After-g) → NumberAt (c .before .before .before .before .before .before .before .before .before .before .before .args .s .now) (c .before .before .before .before .f .given .0 .1 .0 + 1) 9 0 10000000 (c .g .given .0 .0) (c .g .given .0 .1 .0)
-energy c = number-taken _ (c .before .before .take-number2 .ensures) (c .g .given .1)
+energy c = taken-number _ _ _ _ _ _ _ (sym (c .before .before .take-number2 .ensures) ∙ c .g .given .1)
 
 -- Its third number.
 decay : (c : tie.After-h) → NumberAt (c .before .before .before .before .before .before .before .before .before .before .before .before .before .before .before .args .s .now) (c .before .before .before .before .g .given .0 .1 .0 + 1) 10 0 65536 (c .h .given .0 .0) (c .h .given .0 .1 .0)
-decay c = number-taken _ (c .before .before .take-number3 .ensures) (c .h .given .1)
+decay c = taken-number _ _ _ _ _ _ _ (sym (c .before .before .take-number3 .ensures) ∙ c .h .given .1)
 
 -- src/lib.rt:165:34
 add-take-number : tie.Need-add-take-number
@@ -56,7 +56,7 @@ enum-told c = search needs
 
 -- src/lib.rt:167:9
 returns-2 : tie.Need-returns-2
-returns-2 c = search needs
+returns-2 c = work-time _ _ _ _ (started (c .before .before .before)) (sym (c .before .before .take-number .ensures) ∙ c .enum-told .given .1)
 
 -- src/lib.rt:169:34
 add-take-number-2 : tie.Need-add-take-number-2
@@ -76,7 +76,7 @@ enum-told-2 c = search needs
 
 -- src/lib.rt:171:9
 returns-3 : tie.Need-returns-3
-returns-3 c = search needs
+returns-3 c = work-energy _ _ _ _ (started (c .before .before .before .before .before .before .before)) (time (c .before .before .before .before)) (sym (c .before .before .take-number2 .ensures) ∙ c .enum-told2 .given .1)
 
 -- src/lib.rt:173:34
 add-take-number-3 : tie.Need-add-take-number-3
@@ -96,7 +96,7 @@ enum-told-3 c = search needs
 
 -- src/lib.rt:175:9
 returns-4 : tie.Need-returns-4
-returns-4 c = search needs
+returns-4 c = work-decay _ _ _ _ (started (c .before .before .before .before .before .before .before .before .before .before .before)) (time (c .before .before .before .before .before .before .before .before)) (energy (c .before .before .before .before)) (sym (c .before .before .take-number3 .ensures) ∙ c .enum-told3 .given .1)
 
 -- src/lib.rt:177:11
 add-store : tie.Need-add-store
@@ -144,7 +144,7 @@ same-length c = search needs
 
 -- src/lib.rt:158:1
 returns-5 : tie.Need-returns-5
-returns-5 c = work-taken _ _ (started (c .before .before .before .before .before .before .before .before .before .before .before .before)) (time (c .before .before .before .before .before .before .before .before .before)) (energy (c .before .before .before .before .before)) (decay (c .before))
+returns-5 c = work-taken _ _ _ _ (started (c .before .before .before .before .before .before .before .before .before .before .before .before)) (time (c .before .before .before .before .before .before .before .before .before)) (energy (c .before .before .before .before .before)) (decay (c .before))
 
 pub take-work-spec : {M : Type 1} → statement M
 take-work-spec =
