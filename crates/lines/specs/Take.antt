@@ -21,7 +21,7 @@ roomOf (Level resistance) = 11
 roomOf (Change p) = 20
 roomOf Work = 29
 
--- Line j, from 0, of the lines of a kind is taken of the text s at place p.
+-- Line j, from 0, of the lines of a kind is taken of the text s at place p; j counts for S lines alone.
 unfoldable pub takesLine : Kind → ℕ → List ℕ → ℕ → Bool
 takesLine kind j s p = isTaken s p (roomOf kind) (λ line. (rowFor kind j line) .fault)
 
