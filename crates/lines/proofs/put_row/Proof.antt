@@ -5,14 +5,10 @@ use borrow.Author.Needs.{needs}
 use Rattle.lines.proofs.Lines.{put-level, put-change, put-work, few-levels, few-changes, few-works}
 use Rattle.lines.proofs.put_row.Statement.{statement}
 use Rattle.lines.proofs.put_row.Tie as tie
-use Rattle.lines.proofs.put_row.Reads as reads
-use Rattle.lines.proofs.put_row.Lts as lts
 
--- src/lib.rt:87:24
 enum-told : tie.Need-enum-told
 enum-told c = search needs
 
--- src/lib.rt:87:24
 array-read-store : tie.Need-array-read-store
 array-read-store c = search needs
 
@@ -26,123 +22,93 @@ place2 c = few-changes _ _ (c .before .before .pre .1) _ (c .enum-told2 .given .
 place3 : (c : tie.After-enum-told3) → c .before .before .args .k < 512
 place3 c = few-works _ _ (c .before .before .pre .1) (c .enum-told3 .given .1)
 
--- src/lib.rt:87:13
 mul-store : tie.Need-mul-store
 mul-store c = let h = place1 c in search needs
 
--- src/lib.rt:87:13
 slice-write-store : tie.Need-slice-write-store
 slice-write-store c = let h = place1 c in search needs
 
--- src/lib.rt:90:28
 enum-told-2 : tie.Need-enum-told-2
 enum-told-2 c = search needs
 
--- src/lib.rt:90:28
 array-read-store-2 : tie.Need-array-read-store-2
 array-read-store-2 c = search needs
 
--- src/lib.rt:90:19
 add-store : tie.Need-add-store
 add-store c = let h = place2 c in search needs
 
--- src/lib.rt:90:13
 mul-store-2 : tie.Need-mul-store-2
 mul-store-2 c = let h = place2 c in search needs
 
--- src/lib.rt:90:13
 slice-write-store-2 : tie.Need-slice-write-store-2
 slice-write-store-2 c = let h = place2 c in search needs
 
--- src/lib.rt:91:29
 array-read-store-3 : tie.Need-array-read-store-3
 array-read-store-3 c = search needs
 
--- src/lib.rt:91:19
 add-store-2 : tie.Need-add-store-2
 add-store-2 c = let h = place2 c in search needs
 
--- src/lib.rt:91:13
 mul-store-3 : tie.Need-mul-store-3
 mul-store-3 c = let h = place2 c in search needs
 
--- src/lib.rt:91:13
 slice-write-store-3 : tie.Need-slice-write-store-3
 slice-write-store-3 c = let h = place2 c in simp length-set (omega (arith, c .before .before .pre .0))
 
--- src/lib.rt:94:30
 enum-told-3 : tie.Need-enum-told-3
 enum-told-3 c = search needs
 
--- src/lib.rt:94:30
 array-read-store-4 : tie.Need-array-read-store-4
 array-read-store-4 c = search needs
 
--- src/lib.rt:94:19
 add-store-3 : tie.Need-add-store-3
 add-store-3 c = let h = place3 c in search needs
 
--- src/lib.rt:94:13
 mul-store-4 : tie.Need-mul-store-4
 mul-store-4 c = let h = place3 c in search needs
 
--- src/lib.rt:94:13
 slice-write-store-4 : tie.Need-slice-write-store-4
 slice-write-store-4 c = let h = place3 c in search needs
 
--- src/lib.rt:95:30
 array-read-store-5 : tie.Need-array-read-store-5
 array-read-store-5 c = search needs
 
--- src/lib.rt:95:19
 add-store-4 : tie.Need-add-store-4
 add-store-4 c = let h = place3 c in search needs
 
--- src/lib.rt:95:13
 mul-store-5 : tie.Need-mul-store-5
 mul-store-5 c = let h = place3 c in search needs
 
--- src/lib.rt:95:13
 slice-write-store-5 : tie.Need-slice-write-store-5
 slice-write-store-5 c = let h = place3 c in simp length-set (omega (arith, c .before .before .pre .0))
 
--- src/lib.rt:96:31
 array-read-store-6 : tie.Need-array-read-store-6
 array-read-store-6 c = search needs
 
--- src/lib.rt:96:19
 add-store-5 : tie.Need-add-store-5
 add-store-5 c = let h = place3 c in search needs
 
--- src/lib.rt:96:13
 mul-store-6 : tie.Need-mul-store-6
 mul-store-6 c = let h = place3 c in search needs
 
--- src/lib.rt:96:13
 slice-write-store-6 : tie.Need-slice-write-store-6
 slice-write-store-6 c = let h = place3 c in simp length-set (omega (arith, c .before .before .pre .0))
 
--- src/lib.rt:81:1
 same-length : tie.Need-same-length
 same-length c = search needs
 
--- src/lib.rt:81:1
 returns : tie.Need-returns
 returns c = put-level _ _ _ _ _ (c .enum-told .given .1)
 
--- src/lib.rt:81:1
 same-length-2 : tie.Need-same-length-2
 same-length-2 c = search needs
 
--- src/lib.rt:81:1
 returns-2 : tie.Need-returns-2
 returns-2 c = put-change _ _ _ _ _ (c .enum-told2 .given .1)
 
--- src/lib.rt:81:1
 same-length-3 : tie.Need-same-length-3
 same-length-3 c = search needs
 
--- src/lib.rt:81:1
 returns-3 : tie.Need-returns-3
 returns-3 c = put-work _ _ _ _ (c .enum-told3 .given .1)
 

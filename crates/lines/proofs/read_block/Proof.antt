@@ -8,12 +8,6 @@ use Rattle.lines.proofs.Lines.{Going, line-taken, going-all, going-miss
 use Rattle.lines.proofs.Take.{going-took}
 use Rattle.lines.proofs.read_block.Statement.{statement}
 use Rattle.lines.proofs.read_block.Tie as tie
-use Rattle.lines.proofs.read_block.Reads as reads
-use Rattle.lines.proofs.read_block.Lts as lts
-use Rattle.lines.proofs.put_row.Reads as put-row-reads
-use Rattle.lines.proofs.read_line.Reads as read-line-reads
-use Rattle.lines.proofs.take_lines.Reads as take-lines-reads
-use Rattle.text.proofs.scan_line.Reads as scan-line-reads
 
 abbrev Inv-loop : tie.InvT-loop
 Inv-loop s at line kind base n store₀ p₀ j₀ store p j = (old : List ℕ) → Going s at kind base n old store₀ p₀ j₀ → Going s at kind base n old store p j
@@ -21,11 +15,9 @@ Inv-loop s at line kind base n store₀ p₀ j₀ store p j = (old : List ℕ) �
 abbrev μ-loop : tie.MeasureT-loop
 μ-loop s at line kind base n store₀ p₀ j₀ store p j = n - j
 
--- src/lib.rt:226:9
 take-lines-requires : tie.Need-take-lines-requires Inv-loop μ-loop
 take-lines-requires c κs = search needs
 
--- src/lib.rt:229:5
 loop-holds : tie.Need-loop-holds Inv-loop μ-loop
 loop-holds c = λ old g. g
 
@@ -33,62 +25,48 @@ loop-holds c = λ old g. g
 so-far : (c : tie.At-loop Inv-loop μ-loop) → let a = c .before .before .before .before .before .before .before .args in let l = c .loop in Going (a .s .now) (a .at) (a .kind) (a .base) (a .n) (a .store .now) (l .store) (l .p) (l .j)
 so-far c = c .loop .inv _ (going-took _ _ _ _ _ _ (search needs) (search needs) _ (c .before .before .before .take-lines .ensures))
 
--- src/lib.rt:230:13
 scan-line-requires : tie.Need-scan-line-requires Inv-loop μ-loop
 scan-line-requires c κs = so-far (c .before) .within
 
--- src/lib.rt:235:23
 add-t22 : tie.Need-add-t22 Inv-loop μ-loop
 add-t22 c = search needs
 
--- src/lib.rt:233:13
 same-length : tie.Need-same-length Inv-loop μ-loop
 same-length c = let h = so-far (c .before .before .before) .long in search needs
 
--- src/lib.rt:233:13
 returns : tie.Need-returns Inv-loop μ-loop
 returns c = going-missing (so-far (c .before .before .before)) _ (search needs) _ (c .before .scan-line .ensures) (search needs)
 
--- src/lib.rt:240:13
 read-line-requires : tie.Need-read-line-requires Inv-loop μ-loop
 read-line-requires c κs = let z = c .before .scan-line .ensures in (line-from z, z .within, line-tabs z)
 
 enum-told : tie.Need-enum-told Inv-loop μ-loop
 enum-told c = search needs
 
--- src/lib.rt:245:23
 add-t23 : tie.Need-add-t23 Inv-loop μ-loop
 add-t23 c = search needs
 
--- src/lib.rt:243:13
 same-length-2 : tie.Need-same-length-2 Inv-loop μ-loop
 same-length-2 c = let h = so-far (c .before .before .before .before .before) .long in search needs
 
--- src/lib.rt:243:13
 returns-2 : tie.Need-returns-2 Inv-loop μ-loop
 returns-2 c = going-fault (so-far (c .before .before .before .before .before)) _ (search needs) _ (c .before .before .before .scan-line .ensures) (search needs) _ (c .before .read-line .ensures) (c .match .keys2)
 
--- src/lib.rt:250:30
 add-put-row : tie.Need-add-put-row Inv-loop μ-loop
 add-put-row c = omega (arith, places-most (c .before .before .before .before .before .before .before .before .before .before .before .before .before .before .before .args .kind), c .before .before .before .before .before .before .before .before .before .before .before .before .before .before .before .pre)
 
--- src/lib.rt:250:9
 put-row-requires : tie.Need-put-row-requires Inv-loop μ-loop
 put-row-requires c κs = (so-far (c .before .before .before .before .before .before .before .before) .long, omega (arith, c .before .before .before .before .before .before .before .before .before .before .before .before .before .before .before .pre))
 
--- src/lib.rt:251:13
 add-p : tie.Need-add-p Inv-loop μ-loop
 add-p c = search needs
 
--- src/lib.rt:252:9
 add-j : tie.Need-add-j Inv-loop μ-loop
 add-j c = search needs
 
--- src/lib.rt:229:5
 loop-less : tie.Need-loop-less Inv-loop μ-loop
 loop-less c = search needs
 
--- src/lib.rt:229:5
 loop-again : tie.Need-loop-again Inv-loop μ-loop
 loop-again c =
     let g = c .before .before .before .before .before .before .before .before .before .before .before .loop .inv in
@@ -96,15 +74,12 @@ loop-again c =
     λ old h. going-on (g old h) (search needs)
     (line-taken r (omega (arith, r .within, c .before .before .before .before .before .before .before .before .if1 .left)) (rowFor _ _) _ (c .before .before .before .before .before .before .before .read-line .ensures) (c .before .before .before .before .before .enum-told .given .1) _ _ _ _ (c .before .before .put-row .ensures))
 
--- src/lib.rt:256:15
 add-t28 : tie.Need-add-t28 Inv-loop μ-loop
 add-t28 c = search needs
 
--- src/lib.rt:214:1
 same-length-3 : tie.Need-same-length-3 Inv-loop μ-loop
 same-length-3 c = let h = so-far (c .before) .long in search needs
 
--- src/lib.rt:214:1
 returns-3 : tie.Need-returns-3 Inv-loop μ-loop
 returns-3 c = going-all (so-far (c .before)) _ (search needs)
 

@@ -2,52 +2,37 @@ use borrow.Author.Needs.{needs}
 use Rattle.lines.proofs.Lines.{for-level, for-self, for-change, for-work}
 use Rattle.lines.proofs.read_line.Statement.{statement}
 use Rattle.lines.proofs.read_line.Tie as tie
-use Rattle.lines.proofs.read_line.Reads as reads
-use Rattle.lines.proofs.read_line.Lts as lts
-use Rattle.lines.proofs.read_level.Reads as read-level-reads
-use Rattle.rows.proofs.read_row.Reads as read-row-reads
 
--- src/lib.rt:62:21
 enum-known-kind : tie.Need-enum-known-kind
 enum-known-kind c = search needs
 
--- src/lib.rt:62:36
 read-level-requires : tie.Need-read-level-requires
 read-level-requires c κs = search needs
 
--- src/lib.rt:63:22
 enum-known-kind-2 : tie.Need-enum-known-kind-2
 enum-known-kind-2 c = search needs
 
--- src/lib.rt:67:17
 read-row-requires : tie.Need-read-row-requires
 read-row-requires c κs = search needs
 
--- src/lib.rt:67:17
 returns : tie.Need-returns
 returns c = for-self _ _ _ _ _ (c .before .before .before .kind2 .given .1) (search needs) (c .read-row .ensures)
 
--- src/lib.rt:70:13
 read-row-requires-2 : tie.Need-read-row-requires-2
 read-row-requires-2 c κs = search needs
 
--- src/lib.rt:73:17
 enum-told : tie.Need-enum-told
 enum-told c = search needs
 
--- src/lib.rt:75:13
 read-row-requires-3 : tie.Need-read-row-requires-3
 read-row-requires-3 c κs = search needs
 
--- src/lib.rt:57:1
 returns-2 : tie.Need-returns-2
 returns-2 c = for-level _ _ _ _ _ (c .before .before .kind .given .1) (c .read-level .ensures)
 
--- src/lib.rt:57:1
 returns-3 : tie.Need-returns-3
 returns-3 c = for-change _ _ _ _ _ (c .before .before .before .kind2 .given .1) (search needs) (c .read-row2 .ensures)
 
--- src/lib.rt:57:1
 returns-4 : tie.Need-returns-4
 returns-4 c = for-work _ _ _ _ (c .before .enum-told .given .1) (c .read-row3 .ensures)
 

@@ -12,16 +12,10 @@ use Rattle.rows.proofs.Take.{Starts, starts-is}
 use Rattle.lines.proofs.Take.{most-self, most-other, change-unstarted, change-time, change-energy, change-taken}
 use Rattle.lines.proofs.take_change.Statement.{statement}
 use Rattle.lines.proofs.take_change.Tie as tie
-use Rattle.lines.proofs.take_change.Reads as reads
-use Rattle.lines.proofs.take_change.Lts as lts
-use Rattle.rows.proofs.starts_with.Reads as starts-with-reads
-use Rattle.text.proofs.take_number.Reads as take-number-reads
 
--- src/lib.rt:140:9
 starts-with-requires : tie.Need-starts-with-requires
 starts-with-requires c κs = search needs
 
--- src/lib.rt:141:9
 returns : tie.Need-returns
 returns c = change-unstarted _ _ _ refl _ _ _ _ (sym (c .before .starts-with .ensures) ∙ not-true _ (c .if1 .taken))
 
@@ -43,79 +37,60 @@ time c = taken-number _ _ _ _ _ _ _ (sym (c .before .before .take-number .ensure
 energy : (c : tie.After-g) → NumberAt (c .before .before .before .before .before .before .before .before .before .before .before .before .args .s .now) (c .before .before .before .before .f .given .0 .1 .0 + 1) 10 0 (c .before .before .before .before .before .before .before .if2 .most) (c .g .given .0 .0) (c .g .given .0 .1 .0)
 energy c = taken-number _ _ _ _ _ _ _ (sym (c .before .before .take-number2 .ensures) ∙ c .g .given .1)
 
--- src/lib.rt:144:34
 add-take-number : tie.Need-add-take-number
 add-take-number c = search needs
 
--- src/lib.rt:144:9
 take-number-requires : tie.Need-take-number-requires
 take-number-requires c κs = omega (arith, started (c .before))
 
--- src/lib.rt:145:23
 enum-known-f : tie.Need-enum-known-f
 enum-known-f c = search needs
 
--- src/lib.rt:146:9
 enum-told : tie.Need-enum-told
 enum-told c = search needs
 
--- src/lib.rt:146:9
 returns-2 : tie.Need-returns-2
 returns-2 c = change-time _ _ _ (most-is (c .before .before .before)) _ _ _ _ (started (c .before .before .before .before)) (sym (c .before .before .take-number .ensures) ∙ c .enum-told .given .1)
 
--- src/lib.rt:148:34
 add-take-number-2 : tie.Need-add-take-number-2
 add-take-number-2 c = omega (arith, started (c .before .before .before .before .before), time (c .before))
 
--- src/lib.rt:148:9
 take-number-requires-2 : tie.Need-take-number-requires-2
 take-number-requires-2 c κs = omega (arith, started (c .before .before .before .before .before), time (c .before))
 
--- src/lib.rt:149:23
 enum-known-g : tie.Need-enum-known-g
 enum-known-g c = search needs
 
--- src/lib.rt:150:9
 enum-told-2 : tie.Need-enum-told-2
 enum-told-2 c = search needs
 
--- src/lib.rt:150:9
 returns-3 : tie.Need-returns-3
 returns-3 c = change-energy _ _ _ (most-is (c .before .before .before .before .before .before .before)) _ _ _ _ (started (c .before .before .before .before .before .before .before .before)) (time (c .before .before .before .before)) (sym (c .before .before .take-number2 .ensures) ∙ c .enum-told2 .given .1)
 
--- src/lib.rt:152:11
 add-store : tie.Need-add-store
 add-store c = search needs
 
--- src/lib.rt:152:5
 mul-store : tie.Need-mul-store
 mul-store c = search needs
 
--- src/lib.rt:152:5
 slice-write-store : tie.Need-slice-write-store
 slice-write-store c = search needs
 
--- src/lib.rt:153:11
 add-store-2 : tie.Need-add-store-2
 add-store-2 c = search needs
 
--- src/lib.rt:153:5
 mul-store-2 : tie.Need-mul-store-2
 mul-store-2 c = search needs
 
--- src/lib.rt:153:5
 slice-write-store-2 : tie.Need-slice-write-store-2
 slice-write-store-2 c = simp length-set (omega arith)
 
--- src/lib.rt:154:16
 add-t17 : tie.Need-add-t17
 add-t17 c = omega (arith, energy (c .before))
 
--- src/lib.rt:136:1
 same-length : tie.Need-same-length
 same-length c = search needs
 
--- src/lib.rt:136:1
 returns-4 : tie.Need-returns-4
 returns-4 c =
     change-taken _ _ _ (most-is (c .before .before .before .before .before .before .before .before)) _ _ _ _

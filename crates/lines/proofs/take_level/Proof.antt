@@ -8,17 +8,10 @@ use Rattle.rows.proofs.Take.{Starts, starts-is}
 use Rattle.lines.proofs.Take.{level-unstarted, level-number, level-warm, level-taken}
 use Rattle.lines.proofs.take_level.Statement.{statement}
 use Rattle.lines.proofs.take_level.Tie as tie
-use Rattle.lines.proofs.take_level.Reads as reads
-use Rattle.lines.proofs.take_level.Lts as lts
-use Rattle.rows.proofs.starts_with.Reads as starts-with-reads
-use Rattle.text.proofs.take_number.Reads as take-number-reads
-use Rattle.thermal.proofs.steady_state.Reads as steady-state-reads
 
--- src/lib.rt:121:9
 starts-with-requires : tie.Need-starts-with-requires
 starts-with-requires c κs = search needs
 
--- src/lib.rt:122:9
 returns : tie.Need-returns
 returns c = level-unstarted _ _ _ _ _ (sym (c .before .starts-with .ensures) ∙ not-true _ (c .if1 .taken))
 
@@ -30,51 +23,39 @@ started c = starts-is _ _ _ _ (sym (c .before .starts-with .ensures) ∙ not-fal
 power : (c : tie.After-f) → NumberAt (c .before .before .before .before .before .before .before .args .s .now) (c .before .before .before .before .before .before .before .args .from + 2) 10 0 100000 (c .f .given .0 .0) (c .f .given .0 .1 .0)
 power c = taken-number _ _ _ _ _ _ _ (sym (c .before .before .take-number .ensures) ∙ c .f .given .1)
 
--- src/lib.rt:124:34
 add-take-number : tie.Need-add-take-number
 add-take-number c = search needs
 
--- src/lib.rt:124:9
 take-number-requires : tie.Need-take-number-requires
 take-number-requires c κs = omega (arith, started c)
 
--- src/lib.rt:125:23
 enum-known-f : tie.Need-enum-known-f
 enum-known-f c = search needs
 
--- src/lib.rt:126:9
 enum-told : tie.Need-enum-told
 enum-told c = search needs
 
--- src/lib.rt:126:9
 returns-2 : tie.Need-returns-2
 returns-2 c = level-number _ _ _ _ _ (started (c .before .before .before)) (sym (c .before .before .take-number .ensures) ∙ c .enum-told .given .1)
 
--- src/lib.rt:128:17
 steady-state-requires : tie.Need-steady-state-requires
 steady-state-requires c κs = search needs
 
--- src/lib.rt:129:9
 returns-3 : tie.Need-returns-3
 returns-3 c = level-warm _ _ _ _ _ (started (c .before .before .before .before .before .before)) (power (c .before .before .before)) (rw (c .before .steady-state .ensures) at (c .if2 .taken))
 
--- src/lib.rt:131:5
 mul-store : tie.Need-mul-store
 mul-store c = search needs
 
--- src/lib.rt:131:5
 slice-write-store : tie.Need-slice-write-store
 slice-write-store c = search needs
 
--- src/lib.rt:132:16
 add-t11 : tie.Need-add-t11
 add-t11 c = omega (arith, power (c .before .before .before))
 
--- src/lib.rt:117:1
 same-length : tie.Need-same-length
 same-length c = search needs
 
--- src/lib.rt:117:1
 returns-4 : tie.Need-returns-4
 returns-4 c = level-taken _ _ _ _ _ (started (c .before .before .before .before .before .before)) (power (c .before .before .before)) (rw (c .before .steady-state .ensures) at (c .if2 .left))
 

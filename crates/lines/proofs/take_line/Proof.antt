@@ -3,57 +3,40 @@ use Rattle.lines.proofs.Lines.{few-levels, few-changes, few-works}
 use Rattle.lines.proofs.Take.{takes-level, takes-change, takes-work}
 use Rattle.lines.proofs.take_line.Statement.{statement}
 use Rattle.lines.proofs.take_line.Tie as tie
-use Rattle.lines.proofs.take_line.Reads as reads
-use Rattle.lines.proofs.take_line.Lts as lts
-use Rattle.lines.proofs.take_change.Reads as take-change-reads
-use Rattle.lines.proofs.take_level.Reads as take-level-reads
-use Rattle.lines.proofs.take_work.Reads as take-work-reads
 
--- src/lib.rt:189:21
 enum-known-kind : tie.Need-enum-known-kind
 enum-known-kind c = search needs
 
--- src/lib.rt:189:36
 take-level-requires : tie.Need-take-level-requires
 take-level-requires c κs = let h = few-levels _ _ (c .before .before .before .before .before .before .pre .1) _ (c .before .before .kind .given .1) in search needs
 
--- src/lib.rt:190:22
 enum-known-kind-2 : tie.Need-enum-known-kind-2
 enum-known-kind-2 c = search needs
 
--- src/lib.rt:190:28
 take-change-requires : tie.Need-take-change-requires
 take-change-requires c κs = let h = few-changes _ _ (c .before .before .before .before .before .before .pre .1) _ (c .before .before .kind2 .given .1) in search needs
 
--- src/lib.rt:191:45
 enum-told : tie.Need-enum-told
 enum-told c = search needs
 
--- src/lib.rt:191:23
 take-work-requires : tie.Need-take-work-requires
 take-work-requires c κs = let h = few-works _ _ (c .before .before .before .before .before .pre .1) (c .before .enum-told .given .1) in search needs
 
--- src/lib.rt:184:1
 same-length : tie.Need-same-length
 same-length c = search needs
 
--- src/lib.rt:184:1
 returns : tie.Need-returns
 returns c = takes-level _ _ _ (c .before .before .before .before .before .kind .given .1) (c .before .before .take-level .ensures)
 
--- src/lib.rt:184:1
 same-length-2 : tie.Need-same-length-2
 same-length-2 c = search needs
 
--- src/lib.rt:184:1
 returns-2 : tie.Need-returns-2
 returns-2 c = takes-change _ _ _ (c .before .before .before .before .before .kind2 .given .1) (c .before .before .take-change .ensures)
 
--- src/lib.rt:184:1
 same-length-3 : tie.Need-same-length-3
 same-length-3 c = search needs
 
--- src/lib.rt:184:1
 returns-3 : tie.Need-returns-3
 returns-3 c = takes-work _ _ (c .before .before .before .before .enum-told .given .1) (c .before .before .take-work .ensures)
 

@@ -9,16 +9,10 @@ use Rattle.rows.proofs.Take.{Starts, starts-is}
 use Rattle.lines.proofs.Take.{work-unstarted, work-time, work-energy, work-decay, work-taken}
 use Rattle.lines.proofs.take_work.Statement.{statement}
 use Rattle.lines.proofs.take_work.Tie as tie
-use Rattle.lines.proofs.take_work.Reads as reads
-use Rattle.lines.proofs.take_work.Lts as lts
-use Rattle.rows.proofs.starts_with.Reads as starts-with-reads
-use Rattle.text.proofs.take_number.Reads as take-number-reads
 
--- src/lib.rt:162:9
 starts-with-requires : tie.Need-starts-with-requires
 starts-with-requires c κs = search needs
 
--- src/lib.rt:163:9
 returns : tie.Need-returns
 returns c = work-unstarted _ _ _ _ (sym (c .before .starts-with .ensures) ∙ not-true _ (c .if1 .taken))
 
@@ -38,111 +32,84 @@ energy c = taken-number _ _ _ _ _ _ _ (sym (c .before .before .take-number2 .ens
 decay : (c : tie.After-h) → NumberAt (c .before .before .before .before .before .before .before .before .before .before .before .before .before .before .before .args .s .now) (c .before .before .before .before .g .given .0 .1 .0 + 1) 10 0 65536 (c .h .given .0 .0) (c .h .given .0 .1 .0)
 decay c = taken-number _ _ _ _ _ _ _ (sym (c .before .before .take-number3 .ensures) ∙ c .h .given .1)
 
--- src/lib.rt:165:34
 add-take-number : tie.Need-add-take-number
 add-take-number c = search needs
 
--- src/lib.rt:165:9
 take-number-requires : tie.Need-take-number-requires
 take-number-requires c κs = omega (arith, started c)
 
--- src/lib.rt:166:23
 enum-known-f : tie.Need-enum-known-f
 enum-known-f c = search needs
 
--- src/lib.rt:167:9
 enum-told : tie.Need-enum-told
 enum-told c = search needs
 
--- src/lib.rt:167:9
 returns-2 : tie.Need-returns-2
 returns-2 c = work-time _ _ _ _ (started (c .before .before .before)) (sym (c .before .before .take-number .ensures) ∙ c .enum-told .given .1)
 
--- src/lib.rt:169:34
 add-take-number-2 : tie.Need-add-take-number-2
 add-take-number-2 c = omega (arith, started (c .before .before .before .before), time (c .before))
 
--- src/lib.rt:169:9
 take-number-requires-2 : tie.Need-take-number-requires-2
 take-number-requires-2 c κs = omega (arith, started (c .before .before .before .before), time (c .before))
 
--- src/lib.rt:170:23
 enum-known-g : tie.Need-enum-known-g
 enum-known-g c = search needs
 
--- src/lib.rt:171:9
 enum-told-2 : tie.Need-enum-told-2
 enum-told-2 c = search needs
 
--- src/lib.rt:171:9
 returns-3 : tie.Need-returns-3
 returns-3 c = work-energy _ _ _ _ (started (c .before .before .before .before .before .before .before)) (time (c .before .before .before .before)) (sym (c .before .before .take-number2 .ensures) ∙ c .enum-told2 .given .1)
 
--- src/lib.rt:173:34
 add-take-number-3 : tie.Need-add-take-number-3
 add-take-number-3 c = omega (arith, started (c .before .before .before .before .before .before .before .before), time (c .before .before .before .before .before), energy (c .before))
 
--- src/lib.rt:173:9
 take-number-requires-3 : tie.Need-take-number-requires-3
 take-number-requires-3 c κs = omega (arith, started (c .before .before .before .before .before .before .before .before), time (c .before .before .before .before .before), energy (c .before))
 
--- src/lib.rt:174:23
 enum-known-h : tie.Need-enum-known-h
 enum-known-h c = search needs
 
--- src/lib.rt:175:9
 enum-told-3 : tie.Need-enum-told-3
 enum-told-3 c = search needs
 
--- src/lib.rt:175:9
 returns-4 : tie.Need-returns-4
 returns-4 c = work-decay _ _ _ _ (started (c .before .before .before .before .before .before .before .before .before .before .before)) (time (c .before .before .before .before .before .before .before .before)) (energy (c .before .before .before .before)) (sym (c .before .before .take-number3 .ensures) ∙ c .enum-told3 .given .1)
 
--- src/lib.rt:177:11
 add-store : tie.Need-add-store
 add-store c = search needs
 
--- src/lib.rt:177:5
 mul-store : tie.Need-mul-store
 mul-store c = search needs
 
--- src/lib.rt:177:5
 slice-write-store : tie.Need-slice-write-store
 slice-write-store c = search needs
 
--- src/lib.rt:178:11
 add-store-2 : tie.Need-add-store-2
 add-store-2 c = search needs
 
--- src/lib.rt:178:5
 mul-store-2 : tie.Need-mul-store-2
 mul-store-2 c = search needs
 
--- src/lib.rt:178:5
 slice-write-store-2 : tie.Need-slice-write-store-2
 slice-write-store-2 c = simp length-set (omega arith)
 
--- src/lib.rt:179:11
 add-store-3 : tie.Need-add-store-3
 add-store-3 c = search needs
 
--- src/lib.rt:179:5
 mul-store-3 : tie.Need-mul-store-3
 mul-store-3 c = search needs
 
--- src/lib.rt:179:5
 slice-write-store-3 : tie.Need-slice-write-store-3
 slice-write-store-3 c = simp length-set (omega arith)
 
--- src/lib.rt:180:16
 add-t16 : tie.Need-add-t16
 add-t16 c = omega (arith, decay (c .before))
 
--- src/lib.rt:158:1
 same-length : tie.Need-same-length
 same-length c = search needs
 
--- src/lib.rt:158:1
 returns-5 : tie.Need-returns-5
 returns-5 c = work-taken _ _ _ _ (started (c .before .before .before .before .before .before .before .before .before .before .before .before)) (time (c .before .before .before .before .before .before .before .before .before)) (energy (c .before .before .before .before .before)) (decay (c .before))
 

@@ -7,37 +7,27 @@ use Rattle.rows.specs.Row.{opens}
 use Rattle.rows.proofs.Row.{opens-second, name-shape, name-sound, name-form}
 use Rattle.rows.proofs.check_name.Statement.{statement}
 use Rattle.rows.proofs.check_name.Tie as tie
-use Rattle.rows.proofs.check_name.Reads as reads
-use Rattle.rows.proofs.check_name.Lts as lts
-use Rattle.rows.proofs.opens_with.Reads as opens-with-reads
-use Rattle.text.proofs.is_name.Reads as is-name-reads
 
--- src/lib.rt:124:9
 opens-with-requires : tie.Need-opens-with-requires
 opens-with-requires c κs = search needs
 
--- src/lib.rt:125:9
 returns : tie.Need-returns
 returns c = name-shape _ _ _ (search needs) (search needs) (sym (c .before .opens-with .ensures) ∙ not-true _ (c .if1 .taken))
 
 opened : (c : tie.Else1) → opens 74 1 (part (c .before .before .before .args .from) (c .before .before .before .args .to) (c .before .before .before .args .s .now)) ≡ true
 opened c = sym (c .before .opens-with .ensures) ∙ not-false _ (c .if1 .left)
 
--- src/lib.rt:127:25
 add-is-name : tie.Need-add-is-name
 add-is-name c = search needs
 
--- src/lib.rt:127:8
 is-name-requires : tie.Need-is-name-requires
 is-name-requires c κs =
     let l = opens-second _ _ _ _ _ (search needs) (search needs) (opened c) (search needs) in
     search needs
 
--- src/lib.rt:120:1
 returns-2 : tie.Need-returns-2
 returns-2 c = name-sound _ _ _ (search needs) (search needs) (opened (c .before .before)) (sym (c .before .is-name .ensures) ∙ c .if2 .taken)
 
--- src/lib.rt:120:1
 returns-3 : tie.Need-returns-3
 returns-3 c = name-form _ _ _ (search needs) (search needs) (opened (c .before .before)) (sym (c .before .is-name .ensures) ∙ c .if2 .left)
 

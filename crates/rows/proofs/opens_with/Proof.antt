@@ -6,38 +6,28 @@ use borrow.Author.Needs.{needs}
 use Rattle.rows.proofs.Row.{opens-empty, opens-other, opens-longer, opens-count}
 use Rattle.rows.proofs.opens_with.Statement.{statement}
 use Rattle.rows.proofs.opens_with.Tie as tie
-use Rattle.rows.proofs.opens_with.Reads as reads
-use Rattle.rows.proofs.opens_with.Lts as lts
 
--- src/lib.rt:29:9
 returns : tie.Need-returns
 returns c = sym (opens-empty _ _ _ _ _ (search needs) (search needs))
 
--- src/lib.rt:31:8
 shared-slice-read-if2 : tie.Need-shared-slice-read-if2
 shared-slice-read-if2 c = search needs
 
--- src/lib.rt:32:9
 returns-2 : tie.Need-returns-2
 returns-2 c = sym (opens-other _ _ _ _ _ (search needs) (search needs) (search needs))
 
--- src/lib.rt:34:12
 sub-if3 : tie.Need-sub-if3
 sub-if3 c = search needs
 
--- src/lib.rt:35:14
 add-if4 : tie.Need-add-if4
 add-if4 c = search needs
 
--- src/lib.rt:35:12
 shared-slice-read-if4 : tie.Need-shared-slice-read-if4
 shared-slice-read-if4 c = search needs
 
--- src/lib.rt:36:13
 returns-3 : tie.Need-returns-3
 returns-3 c = sym (opens-longer _ _ _ _ _ (search needs) (search needs) (search needs) (search needs) (search needs) (search needs))
 
--- src/lib.rt:24:1
 returns-4 : tie.Need-returns-4
 returns-4 c =
     let a = c .before .before .before .before .args in

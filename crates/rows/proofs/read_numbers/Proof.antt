@@ -11,9 +11,6 @@ use Rattle.rows.proofs.Row.{numbers-form, numbers-low, numbers-high, nu
 use borrow.Author.Needs.{needs}
 use Rattle.rows.proofs.read_numbers.Statement.{statement}
 use Rattle.rows.proofs.read_numbers.Tie as tie
-use Rattle.rows.proofs.read_numbers.Reads as reads
-use Rattle.rows.proofs.read_numbers.Lts as lts
-use Rattle.text.proofs.read_number.Reads as read-number-reads
 
 abbrev Inv-loop : tie.InvT-loop
 Inv-loop s at to first k lo hi values₀ p₀ j₀ values p j =
@@ -23,7 +20,6 @@ Inv-loop s at to first k lo hi values₀ p₀ j₀ values p j =
 abbrev μ-loop : tie.MeasureT-loop
 μ-loop s at to first k lo hi values₀ p₀ j₀ values p j = k - j
 
--- src/lib.rt:60:5
 loop-holds : tie.Need-loop-holds Inv-loop μ-loop
 loop-holds c = (search needs, search needs, search needs, search needs, search needs, search needs, refl)
 
@@ -32,95 +28,74 @@ number-here : (c : tie.After-f Inv-loop μ-loop) →
     fieldAt (c .before .before .before .before .loop .p) (part (c .before .before .before .before .loop .p) (c .before .before .before .before .before .before .args .to) (c .before .before .before .before .before .before .args .s .now)) ≡ Number (c .f .given .0 .0) (c .f .given .0 .1 .0)
 number-here c = sym (c .before .before .read-number .ensures) ∙ c .f .given .1
 
--- src/lib.rt:61:13
 read-number-requires : tie.Need-read-number-requires Inv-loop μ-loop
 read-number-requires c κs = search needs
 
--- src/lib.rt:62:27
 enum-known-f : tie.Need-enum-known-f Inv-loop μ-loop
 enum-known-f c = search needs
 
--- src/lib.rt:64:36
 enum-told : tie.Need-enum-told Inv-loop μ-loop
 enum-told c = search needs
 
--- src/lib.rt:64:36
 add-t18 : tie.Need-add-t18 Inv-loop μ-loop
 add-t18 c = search needs
 
--- src/lib.rt:63:13
 returns : tie.Need-returns Inv-loop μ-loop
 returns c =
     let l = c .before .before .before .before .loop in
     (sym (l .inv .6 ∙ numbers-form _ _ _ _ _ _ _ _ (search needs) (sym (c .before .before .read-number .ensures) ∙ c .enum-told .given .1)), l .inv .3)
 
--- src/lib.rt:69:16
 mul-if1 : tie.Need-mul-if1 Inv-loop μ-loop
 mul-if1 c = search needs
 
--- src/lib.rt:69:16
 array-read-if1 : tie.Need-array-read-if1 Inv-loop μ-loop
 array-read-if1 c = search needs
 
--- src/lib.rt:69:16
 cast-if1 : tie.Need-cast-if1 Inv-loop μ-loop
 cast-if1 c = search needs
 
--- src/lib.rt:71:37
 add-t26 : tie.Need-add-t26 Inv-loop μ-loop
 add-t26 c = search needs
 
--- src/lib.rt:70:13
 returns-2 : tie.Need-returns-2 Inv-loop μ-loop
 returns-2 c =
     let l = c .before .before .before .before .before .before .loop in
     (sym (l .inv .6 ∙ numbers-low _ _ _ _ _ _ _ _ (search needs) _ _ (number-here (c .before .before)) (search needs)), l .inv .3)
 
--- src/lib.rt:76:13
 mul-if2 : tie.Need-mul-if2 Inv-loop μ-loop
 mul-if2 c = search needs
 
--- src/lib.rt:76:13
 array-read-if2 : tie.Need-array-read-if2 Inv-loop μ-loop
 array-read-if2 c = search needs
 
--- src/lib.rt:76:13
 cast-if2 : tie.Need-cast-if2 Inv-loop μ-loop
 cast-if2 c = search needs
 
--- src/lib.rt:78:37
 add-t31 : tie.Need-add-t31 Inv-loop μ-loop
 add-t31 c = search needs
 
--- src/lib.rt:77:13
 returns-3 : tie.Need-returns-3 Inv-loop μ-loop
 returns-3 c =
     let l = c .before .before .before .before .before .before .before .loop in
     (sym (l .inv .6 ∙ numbers-high _ _ _ _ _ _ _ _ (search needs) _ _ (number-here (c .before .before .before)) (search needs) (search needs)), l .inv .3)
 
--- src/lib.rt:83:21
 cast-values : tie.Need-cast-values Inv-loop μ-loop
 cast-values c =
     let f : Fits w32 (getD (c .before .before .before .before .before .before .before .before .before .args .t8) (c .before .before .before .before .before .before .before .loop .j) 0) = search needs in
     search needs
 
--- src/lib.rt:83:9
 mul-values : tie.Need-mul-values Inv-loop μ-loop
 mul-values c = search needs
 
--- src/lib.rt:83:9
 array-write-values : tie.Need-array-write-values Inv-loop μ-loop
 array-write-values c = search needs
 
--- src/lib.rt:85:9
 add-j : tie.Need-add-j Inv-loop μ-loop
 add-j c = search needs
 
--- src/lib.rt:60:5
 loop-less : tie.Need-loop-less Inv-loop μ-loop
 loop-less c = search needs
 
--- src/lib.rt:60:5
 loop-again : tie.Need-loop-again Inv-loop μ-loop
 loop-again c =
     let l = c .before .before .before .before .before .before .before .loop in
@@ -134,7 +109,6 @@ loop-again c =
       l .inv .6 ∙ numbers-on _ _ _ _ _ _ _ _ (search needs) _ _ e (search needs) (search needs),
     )
 
--- src/lib.rt:43:1
 returns-4 : tie.Need-returns-4 Inv-loop μ-loop
 returns-4 c = (sym (c .before .loop .inv .6 ∙ numbers-end _ _ _ _ _ _ (search needs)), c .before .loop .inv .3)
 

@@ -10,16 +10,10 @@ use Rattle.rows.specs.Row.{opens, numbersFrom}
 use Rattle.rows.proofs.Row.{opens-some, row-shape, row-numbers}
 use Rattle.rows.proofs.read_row.Statement.{statement}
 use Rattle.rows.proofs.read_row.Tie as tie
-use Rattle.rows.proofs.read_row.Reads as reads
-use Rattle.rows.proofs.read_row.Lts as lts
-use Rattle.rows.proofs.opens_with.Reads as opens-with-reads
-use Rattle.rows.proofs.read_numbers.Reads as read-numbers-reads
 
--- src/lib.rt:109:9
 opens-with-requires : tie.Need-opens-with-requires
 opens-with-requires c κs = search needs
 
--- src/lib.rt:110:9
 returns : tie.Need-returns
 returns c =
     let a = c .before .before .before .args in
@@ -28,18 +22,15 @@ returns c =
 opened : (c : tie.Else1) → opens (c .before .before .before .args .letter) (c .before .before .before .args .k) (part (c .before .before .before .args .from) (c .before .before .before .args .to) (c .before .before .before .args .s .now)) ≡ true
 opened c = sym (c .before .opens-with .ensures) ∙ not-false _ (c .if1 .left)
 
--- src/lib.rt:116:21
 add-read-numbers : tie.Need-add-read-numbers
 add-read-numbers c = search needs
 
--- src/lib.rt:116:5
 read-numbers-requires : tie.Need-read-numbers-requires
 read-numbers-requires c κs =
     let o = opened c in
     let l = opens-some _ _ _ _ _ (search needs) (search needs) o in
     search needs
 
--- src/lib.rt:95:1
 returns-2 : tie.Need-returns-2
 returns-2 c =
     let a = c .before .before .before .before .args in

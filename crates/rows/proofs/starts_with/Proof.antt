@@ -3,34 +3,25 @@ use borrow.Author.Needs.{needs}
 use Rattle.rows.proofs.Take.{starts-not, starts-second}
 use Rattle.rows.proofs.starts_with.Statement.{statement}
 use Rattle.rows.proofs.starts_with.Tie as tie
-use Rattle.rows.proofs.starts_with.Reads as reads
-use Rattle.rows.proofs.starts_with.Lts as lts
 
--- src/lib.rt:141:8
 sub-if1 : tie.Need-sub-if1
 sub-if1 c = search needs
 
--- src/lib.rt:142:9
 returns : tie.Need-returns
 returns c = starts-not _ _ _ _ (λ z. omega (arith, z .within))
 
--- src/lib.rt:144:8
 shared-slice-read-if2 : tie.Need-shared-slice-read-if2
 shared-slice-read-if2 c = search needs
 
--- src/lib.rt:145:9
 returns-2 : tie.Need-returns-2
 returns-2 c = starts-not _ _ _ _ (λ z. c .if2 .taken (z .first))
 
--- src/lib.rt:147:7
 add-result : tie.Need-add-result
 add-result c = search needs
 
--- src/lib.rt:147:5
 shared-slice-read-result : tie.Need-shared-slice-read-result
 shared-slice-read-result c = search needs
 
--- src/lib.rt:137:1
 returns-3 : tie.Need-returns-3
 returns-3 c = starts-second _ _ _ _ (search needs) (search needs)
 

@@ -5,39 +5,28 @@ use borrow.Author.Tests.{not-true, not-false}
 use Rattle.rows.proofs.Take.{Starts, starts-is, name-unstarted, name-line-taken, name-line-left}
 use Rattle.rows.proofs.take_name.Statement.{statement}
 use Rattle.rows.proofs.take_name.Tie as tie
-use Rattle.rows.proofs.take_name.Reads as reads
-use Rattle.rows.proofs.take_name.Lts as lts
-use Rattle.rows.proofs.starts_with.Reads as starts-with-reads
-use Rattle.text.proofs.take_name.Reads as take-name-reads
 
--- src/lib.rt:155:9
 starts-with-requires : tie.Need-starts-with-requires
 starts-with-requires c κs = search needs
 
--- src/lib.rt:156:9
 returns : tie.Need-returns
 returns c = name-unstarted _ _ (sym (c .before .starts-with .ensures) ∙ not-true _ (c .if1 .taken))
 
 started : (c : tie.Else1) → Starts (c .before .before .before .args .s .now) (c .before .before .before .args .from) 74 19
 started c = starts-is _ _ _ _ (sym (c .before .starts-with .ensures) ∙ not-false _ (c .if1 .left))
 
--- src/lib.rt:158:32
 add-take-name : tie.Need-add-take-name
 add-take-name c = search needs
 
--- src/lib.rt:158:9
 take-name-requires : tie.Need-take-name-requires
 take-name-requires c κs = omega (arith, started c .within)
 
--- src/lib.rt:159:8
 add-if2 : tie.Need-add-if2
 add-if2 c = search needs
 
--- src/lib.rt:160:9
 returns-2 : tie.Need-returns-2
 returns-2 c = c .before .take-name .ensures ∙ name-line-taken _ _ (started (c .before .before)) (omega (arith, c .before .take-name .ensures))
 
--- src/lib.rt:151:1
 returns-3 : tie.Need-returns-3
 returns-3 c = name-line-left _ _ (started (c .before .before)) (omega (arith, c .before .take-name .ensures))
 

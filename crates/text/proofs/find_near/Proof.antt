@@ -6,8 +6,6 @@ use Rattle.text.specs.Text.{before, part}
 use Rattle.text.proofs.Text.{found-end, found-here, found-on}
 use Rattle.text.proofs.find_near.Statement.{statement}
 use Rattle.text.proofs.find_near.Tie as tie
-use Rattle.text.proofs.find_near.Reads as reads
-use Rattle.text.proofs.find_near.Lts as lts
 
 abbrev Inv-loop : tie.InvT-loop
 Inv-loop s from to b i₀ i = (i ≤ to) × (to ≤ length s) × (from + before b (part from to s) ≡ i + before b (part i to s))
@@ -15,31 +13,24 @@ Inv-loop s from to b i₀ i = (i ≤ to) × (to ≤ length s) × (from + before 
 abbrev μ-loop : tie.MeasureT-loop
 μ-loop s from to b i₀ i = to - i
 
--- src/lib.rt:13:5
 loop-holds : tie.Need-loop-holds Inv-loop μ-loop
 loop-holds c = (search needs, search needs, refl)
 
--- src/lib.rt:14:12
 shared-slice-read-if1 : tie.Need-shared-slice-read-if1 Inv-loop μ-loop
 shared-slice-read-if1 c = search needs
 
--- src/lib.rt:15:13
 returns : tie.Need-returns Inv-loop μ-loop
 returns c = (sym (c .before .before .before .loop .inv .2 ∙ found-here _ _ _ _ (search needs) (search needs) (search needs)), search needs)
 
--- src/lib.rt:17:9
 add-i : tie.Need-add-i Inv-loop μ-loop
 add-i c = search needs
 
--- src/lib.rt:13:5
 loop-less : tie.Need-loop-less Inv-loop μ-loop
 loop-less c = search needs
 
--- src/lib.rt:13:5
 loop-again : tie.Need-loop-again Inv-loop μ-loop
 loop-again c = (search needs, search needs, c .before .before .before .loop .inv .2 ∙ found-on _ _ _ _ (search needs) (search needs) (search needs))
 
--- src/lib.rt:8:1
 returns-2 : tie.Need-returns-2 Inv-loop μ-loop
 returns-2 c = (sym (c .before .loop .inv .2 ∙ found-end _ _ _ _ (search needs)), search needs)
 

@@ -8,8 +8,6 @@ use Rattle.text.specs.Text.{until, part}
 use Rattle.text.proofs.Number.{Digits, digits-none, digits-value, digits-zero, digits-low, digits-high, digits-long, digits-more, digits-empty, ends-line, ends-field, field-other, field-number}
 use Rattle.text.proofs.read_number.Statement.{statement}
 use Rattle.text.proofs.read_number.Tie as tie
-use Rattle.text.proofs.read_number.Reads as reads
-use Rattle.text.proofs.read_number.Lts as lts
 
 abbrev Inv-loop : tie.InvT-loop
 Inv-loop s from to v₀ i₀ v i = Digits 9 s from to i v
@@ -17,51 +15,39 @@ Inv-loop s from to v₀ i₀ v i = Digits 9 s from to i v
 abbrev μ-loop : tie.MeasureT-loop
 μ-loop s from to v₀ i₀ v i = to - i
 
--- src/lib.rt:47:5
 loop-holds : tie.Need-loop-holds Inv-loop μ-loop
 loop-holds c = digits-none _ _ _ _ (search needs) (search needs)
 
--- src/lib.rt:48:17
 shared-slice-read-b : tie.Need-shared-slice-read-b Inv-loop μ-loop
 shared-slice-read-b c = search needs
 
--- src/lib.rt:53:13
 returns : tie.Need-returns Inv-loop μ-loop
 returns c = sym (field-other _ _ (digits-low _ _ _ _ _ _ (c .before .before .before .before .loop .inv) (search needs) (search needs) (search needs)))
 
--- src/lib.rt:56:13
 returns-2 : tie.Need-returns-2 Inv-loop μ-loop
 returns-2 c = sym (field-other _ _ (digits-high _ _ _ _ _ _ (c .before .before .before .before .before .loop .inv) (search needs) (search needs) (search needs) (search needs)))
 
--- src/lib.rt:58:18
 sub-if4 : tie.Need-sub-if4 Inv-loop μ-loop
 sub-if4 c = search needs
 
--- src/lib.rt:59:13
 returns-3 : tie.Need-returns-3 Inv-loop μ-loop
 returns-3 c = sym (field-other _ _ (digits-long _ _ _ _ _ _ (c .before .before .before .before .before .before .loop .inv) (search needs) (search needs) (search needs)))
 
--- src/lib.rt:61:13
 mul-v : tie.Need-mul-v Inv-loop μ-loop
 mul-v c = let z = c .before .before .before .before .before .before .loop .inv in omega (arith, digits-value _ _ _ _ _ _ z 10 (z .few))
 
--- src/lib.rt:61:22
 cast-v : tie.Need-cast-v Inv-loop μ-loop
 cast-v c = search needs
 
--- src/lib.rt:61:13
 add-v : tie.Need-add-v Inv-loop μ-loop
 add-v c = let z = c .before .before .before .before .before .before .loop .inv in omega (arith, digits-value _ _ _ _ _ _ z 10 (z .few))
 
--- src/lib.rt:62:9
 add-i : tie.Need-add-i Inv-loop μ-loop
 add-i c = search needs
 
--- src/lib.rt:47:5
 loop-less : tie.Need-loop-less Inv-loop μ-loop
 loop-less c = search needs
 
--- src/lib.rt:47:5
 loop-again : tie.Need-loop-again Inv-loop μ-loop
 loop-again c = digits-more _ _ _ _ _ _ (c .before .before .before .before .before .before .loop .inv) (search needs) (search needs) _ refl (search needs) (search needs) (search needs)
 
@@ -74,27 +60,21 @@ ended c =
     (λ w. ends-field _ _ _ _ (search needs) (search needs) (search needs))
     (c .loop-test .came)
 
--- src/lib.rt:65:9
 returns-4 : tie.Need-returns-4 Inv-loop μ-loop
 returns-4 c = sym (field-other _ _ (digits-empty _ _ _ _ _ _ (c .before .before .loop .inv) (ended (c .before)) (search needs)))
 
--- src/lib.rt:67:12
 sub-if6 : tie.Need-sub-if6 Inv-loop μ-loop
 sub-if6 c = search needs
 
--- src/lib.rt:68:12
 shared-slice-read-if7 : tie.Need-shared-slice-read-if7 Inv-loop μ-loop
 shared-slice-read-if7 c = search needs
 
--- src/lib.rt:69:13
 returns-5 : tie.Need-returns-5 Inv-loop μ-loop
 returns-5 c = sym (field-other _ _ (digits-zero _ _ _ _ _ _ (c .before .before .before .before .before .loop .inv) (search needs) (search needs)))
 
--- src/lib.rt:72:22
 add-t14 : tie.Need-add-t14 Inv-loop μ-loop
 add-t14 c = search needs
 
--- src/lib.rt:41:1
 returns-6 : tie.Need-returns-6 Inv-loop μ-loop
 returns-6 c =
     let z = c .before .before .before .loop .inv in

@@ -5,8 +5,6 @@ use borrow.Author.Needs.{needs}
 use Rattle.text.proofs.Text.{Scanned, scanned-none, scanned-byte, scanned-tab, scanned-end, scanned-all}
 use Rattle.text.proofs.scan_line.Statement.{statement}
 use Rattle.text.proofs.scan_line.Tie as tie
-use Rattle.text.proofs.scan_line.Reads as reads
-use Rattle.text.proofs.scan_line.Lts as lts
 
 abbrev Inv-loop : tie.InvT-loop
 Inv-loop s from i₀ tabs₀ i tabs = Scanned s from i tabs
@@ -14,31 +12,24 @@ Inv-loop s from i₀ tabs₀ i tabs = Scanned s from i tabs
 abbrev μ-loop : tie.MeasureT-loop
 μ-loop s from i₀ tabs₀ i tabs = length s - i
 
--- src/lib.rt:27:5
 loop-holds : tie.Need-loop-holds Inv-loop μ-loop
 loop-holds c = scanned-none _ _ (search needs)
 
--- src/lib.rt:28:17
 shared-slice-read-b : tie.Need-shared-slice-read-b Inv-loop μ-loop
 shared-slice-read-b c = search needs
 
--- src/lib.rt:30:13
 returns : tie.Need-returns Inv-loop μ-loop
 returns c = scanned-end _ _ _ _ (c .before .before .before .loop .inv) (search needs) (search needs)
 
--- src/lib.rt:33:13
 add-tabs : tie.Need-add-tabs Inv-loop μ-loop
 add-tabs c = search needs
 
--- src/lib.rt:35:9
 add-i : tie.Need-add-i Inv-loop μ-loop
 add-i c = search needs
 
--- src/lib.rt:27:5
 loop-less : tie.Need-loop-less Inv-loop μ-loop
 loop-less c = search needs
 
--- src/lib.rt:27:5
 loop-again : tie.Need-loop-again Inv-loop μ-loop
 loop-again c =
     let z = c .before .before .before .before .loop .inv in
@@ -47,7 +38,6 @@ loop-again c =
     (λ w. scanned-byte _ _ _ _ z (search needs) _ (w .1) (search needs) (search needs))
     (c .if2 .came)
 
--- src/lib.rt:21:1
 returns-2 : tie.Need-returns-2 Inv-loop μ-loop
 returns-2 c = scanned-all _ _ _ _ (c .before .loop .inv) (search needs)
 

@@ -6,8 +6,6 @@ use borrow.Author.Needs.{needs}
 use Rattle.text.proofs.Take.{Letters, letters-none, letters-more, letters-other, letters-name}
 use Rattle.text.proofs.take_name.Statement.{statement}
 use Rattle.text.proofs.take_name.Tie as tie
-use Rattle.text.proofs.take_name.Reads as reads
-use Rattle.text.proofs.take_name.Lts as lts
 
 abbrev Inv-loop : tie.InvT-loop
 Inv-loop s at k₀ k = (k ≤ 16) × (at + 17 ≤ length s) × Letters s at k
@@ -15,43 +13,33 @@ Inv-loop s at k₀ k = (k ≤ 16) × (at + 17 ≤ length s) × Letters s at k
 abbrev μ-loop : tie.MeasureT-loop
 μ-loop s at k₀ k = 16 - k
 
--- src/lib.rt:166:5
 loop-holds : tie.Need-loop-holds Inv-loop μ-loop
 loop-holds c = (search needs, search needs, letters-none _ _)
 
--- src/lib.rt:167:19
 add-letter : tie.Need-add-letter Inv-loop μ-loop
 add-letter c = search needs
 
--- src/lib.rt:167:17
 shared-slice-read-letter : tie.Need-shared-slice-read-letter Inv-loop μ-loop
 shared-slice-read-letter c = search needs
 
--- src/lib.rt:174:9
 add-k : tie.Need-add-k Inv-loop μ-loop
 add-k c = search needs
 
--- src/lib.rt:166:5
 loop-less : tie.Need-loop-less Inv-loop μ-loop
 loop-less c = search needs
 
--- src/lib.rt:166:5
 loop-again : tie.Need-loop-again Inv-loop μ-loop
 loop-again c = (search needs, search needs, letters-more _ _ _ (c .before .before .before .before .loop .inv .2) (search needs) (λ e. omega arith) (search needs) (search needs))
 
--- src/lib.rt:176:10
 add-if3 : tie.Need-add-if3 Inv-loop μ-loop
 add-if3 c = search needs
 
--- src/lib.rt:176:8
 shared-slice-read-if3 : tie.Need-shared-slice-read-if3 Inv-loop μ-loop
 shared-slice-read-if3 c = search needs
 
--- src/lib.rt:177:16
 add-result : tie.Need-add-result Inv-loop μ-loop
 add-result c = search needs
 
--- src/lib.rt:177:9
 returns : tie.Need-returns Inv-loop μ-loop
 returns c = letters-name _ _ _ (c .before .before .before .loop .inv .2) (search needs) (search needs) (search needs)
 

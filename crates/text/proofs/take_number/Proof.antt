@@ -8,8 +8,6 @@ use Rattle.text.proofs.Number.{Digits, digits-none, digits-more, digits
 use Rattle.text.proofs.Take.{NoDigit, take-open, take-none, take-zero, take-low, take-high, take-digits}
 use Rattle.text.proofs.take_number.Statement.{statement}
 use Rattle.text.proofs.take_number.Tie as tie
-use Rattle.text.proofs.take_number.Reads as reads
-use Rattle.text.proofs.take_number.Lts as lts
 
 abbrev Inv-loop : tie.InvT-loop
 Inv-loop s at stop lo hi v₀ k₀ v k = (k ≤ 8) × (at + 9 ≤ length s) × Digits stop s at (length s) (at + k) v
@@ -17,18 +15,15 @@ Inv-loop s at stop lo hi v₀ k₀ v k = (k ≤ 8) × (at + 9 ≤ length s) × D
 abbrev μ-loop : tie.MeasureT-loop
 μ-loop s at stop lo hi v₀ k₀ v k = 8 - k
 
--- src/lib.rt:104:5
 loop-holds : tie.Need-loop-holds Inv-loop μ-loop
 loop-holds c =
     let a = c .args .at in
     let z : a + 0 ≡ a = omega arith in
     (search needs, search needs, rw z (digits-none _ _ _ _ (search needs) (search needs)))
 
--- src/lib.rt:105:19
 add-digit : tie.Need-add-digit Inv-loop μ-loop
 add-digit c = search needs
 
--- src/lib.rt:105:17
 shared-slice-read-digit : tie.Need-shared-slice-read-digit Inv-loop μ-loop
 shared-slice-read-digit c = search needs
 
@@ -39,27 +34,21 @@ few c =
     let at = c .before .before .before .before .before .args .at in
     digits-value _ _ _ _ _ _ (l .inv .2) 7 (search needs)
 
--- src/lib.rt:112:13
 mul-v : tie.Need-mul-v Inv-loop μ-loop
 mul-v c = omega (arith, few c)
 
--- src/lib.rt:112:22
 cast-v : tie.Need-cast-v Inv-loop μ-loop
 cast-v c = search needs
 
--- src/lib.rt:112:13
 add-v : tie.Need-add-v Inv-loop μ-loop
 add-v c = omega (arith, few c)
 
--- src/lib.rt:113:9
 add-k : tie.Need-add-k Inv-loop μ-loop
 add-k c = search needs
 
--- src/lib.rt:104:5
 loop-less : tie.Need-loop-less Inv-loop μ-loop
 loop-less c = search needs
 
--- src/lib.rt:104:5
 loop-again : tie.Need-loop-again Inv-loop μ-loop
 loop-again c =
     let a = c .before .before .before .before .before .args in
@@ -72,43 +61,33 @@ stopped : (c : tie.Left-loop Inv-loop μ-loop) →
     (8 ≤ c .before .loop .k) ⊎ NoDigit (getD (c .before .before .args .s .now) (c .before .before .args .at + c .before .loop .k) 0)
 stopped c = ⊎-elim (λ w. inl (search needs)) (λ w. inr (⊎-elim (λ x. inl (search needs)) (λ x. inr (search needs)) w)) (c .loop-test .came)
 
--- src/lib.rt:116:9
 returns : tie.Need-returns Inv-loop μ-loop
 returns c = sym (take-none _ _ _ _ _ _ _ (c .before .before .loop .inv .2) (search needs) (search needs) (stopped (c .before)))
 
--- src/lib.rt:119:12
 shared-slice-read-if5 : tie.Need-shared-slice-read-if5 Inv-loop μ-loop
 shared-slice-read-if5 c = search needs
 
--- src/lib.rt:120:13
 returns-2 : tie.Need-returns-2 Inv-loop μ-loop
 returns-2 c = sym (take-zero _ _ _ _ _ _ _ (c .before .before .before .before .before .loop .inv .2) (search needs) (search needs) (search needs))
 
--- src/lib.rt:123:10
 add-if6 : tie.Need-add-if6 Inv-loop μ-loop
 add-if6 c = search needs
 
--- src/lib.rt:123:8
 shared-slice-read-if6 : tie.Need-shared-slice-read-if6 Inv-loop μ-loop
 shared-slice-read-if6 c = search needs
 
--- src/lib.rt:124:9
 returns-3 : tie.Need-returns-3 Inv-loop μ-loop
 returns-3 c = sym (take-open _ _ _ _ _ _ _ (c .before .before .before .before .before .loop .inv .2) (search needs) (search needs) (stopped (c .before .before .before .before)))
 
--- src/lib.rt:127:9
 returns-4 : tie.Need-returns-4 Inv-loop μ-loop
 returns-4 c = sym (take-low _ _ _ _ _ _ _ (c .before .before .before .before .before .before .loop .inv .2) (search needs) (search needs) (search needs))
 
--- src/lib.rt:130:9
 returns-5 : tie.Need-returns-5 Inv-loop μ-loop
 returns-5 c = sym (take-high _ _ _ _ _ _ _ (c .before .before .before .before .before .before .before .loop .inv .2) (search needs) (search needs) (search needs))
 
--- src/lib.rt:132:22
 add-t19 : tie.Need-add-t19 Inv-loop μ-loop
 add-t19 c = search needs
 
--- src/lib.rt:98:1
 returns-6 : tie.Need-returns-6 Inv-loop μ-loop
 returns-6 c =
     sym (take-digits _ _ _ _ _ _ _ (c .before .before .before .before .before .before .before .loop .inv .2) (search needs) (search needs) (search needs) (search needs)
