@@ -42,8 +42,8 @@ module _ (kind : Kind) (j : ℕ) (s : List ℕ) (p k : ℕ) (old : List ℕ) whe
       let e = not-so (isTaken s p (roomOf kind) (faultOf kind j)) (λ t. n (sound-at s p (roomOf kind) (faultOf kind j) t)) in
       record { next = rw e refl; store = rw e refl }
 
-  line-takes : p + roomOf kind ≤ length s → ahead 10 (drop p s) ≡ true → (row : Row) → rowFor kind j (until 10 (drop p s)) ≡ row → row .fault ≡ Sound →
-      (e : ℕ) → e ≡ p + before 10 (drop p s) → TakesLine kind j s p k old (put kind k (row .values) old) (Line (e + 1))
+  line-takes : p + roomOf kind ≤ length s → ahead 10 (drop p s) ≡ true →
+      (row : Row) → rowFor kind j (until 10 (drop p s)) ≡ row → row .fault ≡ Sound → (e : ℕ) → e ≡ p + before 10 (drop p s) → TakesLine kind j s p k old (put kind k (row .values) old) (Line (e + 1))
   unfolding takesLine lineAfter storeAfter
   line-takes l a row q f e w =
       let t = sound-taken s p (roomOf kind) (faultOf kind j) (record { within = l; ends = a; sound = ap (λ (r : Row). r .fault) q ∙ f }) in
@@ -237,7 +237,8 @@ takes-next e z = rw e at z
 
 -- A line of a kind that is known; an L line and a B line are the same at every level.
 module _ {s : List ℕ} {from k : ℕ} {old new : List ℕ} {r : Next} (kind : Kind) (i : ℕ) where
-  pub takes-level : (resistance : ℕ) → kind ≡ Level resistance → TakesLine (Level resistance) 0 s from k old new r → TakesLine kind i s from k old new r
+  pub takes-level : (resistance : ℕ) → kind ≡ Level resistance →
+      TakesLine (Level resistance) 0 s from k old new r → TakesLine kind i s from k old new r
   unfolding takesLine storeAfter rowFor
   takes-level resistance e z = rw e (record { next = z .next; store = z .store })
 
@@ -272,7 +273,8 @@ module _ {s : List ℕ} {at : ℕ} {kind : Kind} {b n : ℕ} {old store : List �
         same = w .same ∙ rw (e, l .0, z .store, l .1) refl;
       }
 
-  pub lines-stop : j < n → {new : List ℕ} → TakesLine kind j s p (b + j) store new Other → record { lines = j; at = p; store = new } ≡ takenFrom kind b n 0 s at old
+  pub lines-stop : j < n → {new : List ℕ} → TakesLine kind j s p (b + j) store new Other →
+      record { lines = j; at = p; store = new } ≡ takenFrom kind b n 0 s at old
   unfolding takenFrom
   lines-stop h z =
       let e : n - j ≡ suc (n - (j + 1)) = omega arith in
@@ -286,7 +288,7 @@ module _ {s : List ℕ} {at : ℕ} {kind : Kind} {b n : ℕ} {old store : List �
 -- The lines that are taken are read.
 going-taken : {s : List ℕ} {at : ℕ} {kind : Kind} {b n : ℕ} {old : List ℕ} (m : ℕ) {store : List ℕ} {p j : ℕ} → j + m ≡ n →
     Going s at kind b n old store p j →
-    Going s at kind b n old ((takenFrom kind b m j s p store) .store) ((takenFrom kind b m j s p store) .at) ((takenFrom kind b m j s p store) .lines)
+    let t = takenFrom kind b m j s p store in Going s at kind b n old (t .store) (t .at) (t .lines)
 unfolding takenFrom
 going-taken zero e g = g
 going-taken {s} {at} {kind} {b} {n} {old} (suc m) {store} {p} {j} e g =
@@ -295,6 +297,7 @@ going-taken {s} {at} {kind} {b} {n} {old} (suc m) {store} {p} {j} e g =
     (λ t. going-taken m (omega arith) (going-on g (omega arith) (line-of kind j s p (b + j) store t)))
     (λ t. g)
 
-pub going-took : (s : List ℕ) (at : ℕ) (kind : Kind) (b n : ℕ) (old : List ℕ) → at ≤ length s → length old ≡ 1672 → (t : Took) → t ≡ takenFrom kind b n 0 s at old →
+pub going-took : (s : List ℕ) (at : ℕ) (kind : Kind) (b n : ℕ) (old : List ℕ) → at ≤ length s → length old ≡ 1672 →
+    (t : Took) → t ≡ takenFrom kind b n 0 s at old →
     Going s at kind b n old (t .store) (t .at) (t .lines)
 going-took s at kind b n old h l t e = rw e (going-taken n (omega arith) (going-none s at kind b n old h l))

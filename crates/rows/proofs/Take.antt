@@ -178,7 +178,8 @@ first-short los his n j line vs h e =
     record { form = p .0; few = number-few 8 (omega arith) _ (p .0) (omega arith); low = ltb-false _ _ (p .1); high = l }
 
 -- Of a line with n bytes 9, the first field and the byte that ends it.
-first-stop : (n : ℕ) (t : List ℕ) → ahead 10 t ≡ true → count 9 (until 10 t) ≡ n → (ahead (stopAt n) t ≡ true) × (until (stopAt n) t ≡ until 9 (until 10 t))
+first-stop : (n : ℕ) (t : List ℕ) → ahead 10 t ≡ true → count 9 (until 10 t) ≡ n →
+    (ahead (stopAt n) t ≡ true) × (until (stopAt n) t ≡ until 9 (until 10 t))
 first-stop zero t a c = (a, sym (one-field (until 10 t) c))
 first-stop (suc n) t a c = let f = first-field t (omega arith) in (lt-ahead 9 t (f .1), f .0)
 

@@ -159,15 +159,18 @@ module _ (lo hi : ℕ) (high : 10 < lo) where
             }
       ]
 
-  pub onward : (s : List ℕ) (p q : ℕ) → all lo hi (until 9 (drop p s)) ≡ true → ahead 9 (drop p s) ≡ true → q ≡ p + before 9 (drop p s) + 1 → Onward s p q
+  pub onward : (s : List ℕ) (p q : ℕ) → all lo hi (until 9 (drop p s)) ≡ true → ahead 9 (drop p s) ≡ true →
+      q ≡ p + before 9 (drop p s) + 1 → Onward s p q
   unfolding ahead
   onward s p q a b e =
       let h = ahead-lt 9 (drop p s) b in
       let z = parted (drop p s) a h in
       let d = beyond-drop 9 p s ∙ ap (λ (i : ℕ). drop i s) (sym e) in
-      let n : before 10 (drop p s) ≡ suc (before 9 (drop p s)) + before 10 (drop q s) = z .end ∙ ap (λ (x : List ℕ). suc (before 9 (drop p s)) + before 10 x) d in
+      let n : before 10 (drop p s) ≡ suc (before 9 (drop p s)) + before 10 (drop q s) =
+      z .end ∙ ap (λ (x : List ℕ). suc (before 9 (drop p s)) + before 10 x) d in
       record {
-        ends = ltb-same (before 10 (drop p s)) (length (drop p s)) (before 10 (drop q s)) (length (drop q s)) (λ x. omega (arith, length-drop p s, length-drop q s)) (λ x. omega (arith, length-drop p s, length-drop q s));
+        ends = ltb-same (before 10 (drop p s)) (length (drop p s)) (before 10 (drop q s)) (length (drop q s))
+            (λ x. omega (arith, length-drop p s, length-drop q s)) (λ x. omega (arith, length-drop p s, length-drop q s));
         end = omega arith;
         field = z .field;
         rest = z .rest ∙ ap (until 10) d;
