@@ -7,9 +7,6 @@ use Rattle.fill.proofs.Layering.{base-level}
 use Rattle.fill.proofs.Jobs.{base-within, kept-none, kept-both, kept-wide, holds-kept, ahead-none, ahead-more, ahead-all}
 use Rattle.fill.proofs.expand_job.Statement.{statement}
 use Rattle.fill.proofs.expand_job.Tie as tie
-use Rattle.fill.proofs.expand_job.Reads as reads
-use Rattle.fill.proofs.expand_job.Lts as lts
-use Rattle.fill.proofs.expand_level.Reads as expand-level-reads
 
 abbrev Inv-loop : tie.InvT-loop
 Inv-loop f figures steady table₀ i levels j₀ table j =
@@ -18,11 +15,9 @@ Inv-loop f figures steady table₀ i levels j₀ table j =
 abbrev μ-loop : tie.MeasureT-loop
 μ-loop f figures steady table₀ i levels j₀ table j = f .levels - j
 
--- src/lib.rt:154:5
 loop-holds : tie.Need-loop-holds Inv-loop μ-loop
 loop-holds c = (omega arith, ahead-none _ _ _, kept-none _ _ _)
 
--- src/lib.rt:155:9
 expand-level-requires : tie.Need-expand-level-requires Inv-loop μ-loop
 expand-level-requires c κs =
     let a = c .before .before .before .before in
@@ -30,15 +25,12 @@ expand-level-requires c κs =
     let q = a .pre .0 in
     ((q .0, q .1, omega (arith, q .2, l .inv .2 .long)), (a .pre .1 .0, omega (arith, c .before .loop-test .taken, q .0 .levels), holds-kept _ (omega arith) (l .inv .2) (a .pre .1 .1)))
 
--- src/lib.rt:156:9
 add-j : tie.Need-add-j Inv-loop μ-loop
 add-j c = omega (arith, c .before .before .before .before .loop-test .taken, c .before .before .before .before .before .before .before .pre .0 .0 .levels, c .before .before .before .before .before .before .before .pre .0 .0 .ranges .levels .high)
 
--- src/lib.rt:154:5
 loop-less : tie.Need-loop-less Inv-loop μ-loop
 loop-less c = omega (arith, c .before .before .before .before .loop-test .taken)
 
--- src/lib.rt:154:5
 loop-again : tie.Need-loop-again Inv-loop μ-loop
 loop-again c =
     let a = c .before .before .before .before .before .before .before in
@@ -51,11 +43,9 @@ loop-again c =
       kept-both (l .inv .2) (kept-wide (omega (arith, base-level s (a .args .i) (l .j))) (base-within s (a .args .i) (l .j) (omega (arith, h, a .pre .0 .0 .levels))) (w .kept)),
     )
 
--- src/lib.rt:144:1
 same-length : tie.Need-same-length Inv-loop μ-loop
 same-length c = c .before .loop .inv .2 .long
 
--- src/lib.rt:144:1
 returns : tie.Need-returns Inv-loop μ-loop
 returns c =
     let l = c .before .loop in

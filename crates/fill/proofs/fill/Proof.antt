@@ -11,9 +11,6 @@ use Rattle.fill.specs.Layer.{base}
 use Rattle.fill.proofs.Jobs.{base-mono, base-need, base-zero}
 use Rattle.fill.proofs.fill.Statement.{statement}
 use Rattle.fill.proofs.fill.Tie as tie
-use Rattle.fill.proofs.fill.Reads as reads
-use Rattle.fill.proofs.fill.Lts as lts
-use Rattle.fill.proofs.fill_job.Reads as fill-job-reads
 
 abbrev Inv-loop : tie.InvT-loop
 Inv-loop f figures steady table₀ shifts₀ reaches₀ times₀ part₀ i₀ table shifts reaches times part i =
@@ -22,7 +19,6 @@ Inv-loop f figures steady table₀ shifts₀ reaches₀ times₀ part₀ i₀ ta
 abbrev μ-loop : tie.MeasureT-loop
 μ-loop f figures steady table₀ shifts₀ reaches₀ times₀ part₀ i₀ table shifts reaches times part i = i
 
--- src/lib.rt:199:5
 loop-holds : tie.Need-loop-holds Inv-loop μ-loop
 loop-holds c =
     let a = c .before in
@@ -30,27 +26,21 @@ loop-holds c =
     let z : base s (a .args .f .jobs) 0 ≡ base s s.jobs 0 = ap (λ (n : ℕ). base s n 0) (a .pre .0 .jobs) in
     (omega arith, refl, refl, refl, refl, subst (λ (k : ℕ). FilledFrom s k (now (a .args .table)) (now (a .args .table))) (sym (z ∙ base-need s)) (filled-none s _))
 
--- src/lib.rt:200:9
 sub-i : tie.Need-sub-i Inv-loop μ-loop
 sub-i c = omega (arith, c .loop-test .taken)
 
--- src/lib.rt:206:13
 slice-aggregate-fill-job : tie.Need-slice-aggregate-fill-job Inv-loop μ-loop
 slice-aggregate-fill-job c = sym (c .before .before .before .loop .inv .1)
 
--- src/lib.rt:207:13
 slice-aggregate-fill-job-2 : tie.Need-slice-aggregate-fill-job-2 Inv-loop μ-loop
 slice-aggregate-fill-job-2 c = sym (c .before .before .before .before .loop .inv .2)
 
--- src/lib.rt:208:13
 slice-aggregate-fill-job-3 : tie.Need-slice-aggregate-fill-job-3 Inv-loop μ-loop
 slice-aggregate-fill-job-3 c = sym (c .before .before .before .before .before .loop .inv .3)
 
--- src/lib.rt:209:13
 slice-aggregate-fill-job-4 : tie.Need-slice-aggregate-fill-job-4 Inv-loop μ-loop
 slice-aggregate-fill-job-4 c = sym (c .before .before .before .before .before .before .loop .inv .4)
 
--- src/lib.rt:201:9
 fill-job-requires : tie.Need-fill-job-requires Inv-loop μ-loop
 fill-job-requires c κs =
     let a = c .before .before .before .before .before .before .before .before in
@@ -65,11 +55,9 @@ fill-job-requires c κs =
       ),
     )
 
--- src/lib.rt:199:5
 loop-less : tie.Need-loop-less Inv-loop μ-loop
 loop-less c = omega (arith, c .before .before .before .before .before .before .before .before .before .before .before .before .loop-test .taken)
 
--- src/lib.rt:199:5
 loop-again : tie.Need-loop-again Inv-loop μ-loop
 loop-again c =
     let a = c .before .before .before .before .before .before .before .before .before .before .before .before .before .before .before in
@@ -84,11 +72,9 @@ loop-again c =
       filled-trans (base-mono s (l .i - 1) (l .i) (omega arith)) (l .inv .5) (w .ensures .0),
     )
 
--- src/lib.rt:188:1
 same-length : tie.Need-same-length Inv-loop μ-loop
 same-length c = c .before .loop .inv .5 .long
 
--- src/lib.rt:188:1
 returns : tie.Need-returns Inv-loop μ-loop
 returns c =
     let a = c .before .before .before in

@@ -9,43 +9,31 @@ use Rattle.fill.proofs.Places.{cells-by, start-is, row-small}
 use borrow.Author.Needs.{needs}
 use Rattle.fill.proofs.fill_job.Statement.{statement}
 use Rattle.fill.proofs.fill_job.Tie as tie
-use Rattle.fill.proofs.fill_job.Reads as reads
-use Rattle.fill.proofs.fill_job.Lts as lts
-use Rattle.fill.proofs.expand_job.Reads as expand-job-reads
-use Rattle.fill.proofs.find_moves.Reads as find-moves-reads
-use Rattle.relax.proofs.relax_words.Reads as relax-words-reads
 
--- src/lib.rt:179:18
 cast-levels : tie.Need-cast-levels
 cast-levels c = search needs
 
--- src/lib.rt:180:17
 mul-cells : tie.Need-mul-cells
 mul-cells c = let g = c .before .before .before .before .before .before .before .pre .0 .0 in omega (arith, cells-by g, cells-small g)
 
--- src/lib.rt:181:5
 expand-job-requires : tie.Need-expand-job-requires
 expand-job-requires c κs =
     let a = c .before .before .before .before .before .before .before .before .pre in
     let q = a .1 .1 in
     (a .0, (q .0, filled-holds _ (omega (arith, base-start (sheetBy (c .before .before .before .before .before .before .before .before .args .f) (now (c .before .before .before .before .before .before .before .before .args .figures))) (suc (c .before .before .before .before .before .before .before .before .args .i)))) (q .1)))
 
--- src/lib.rt:182:5
 find-moves-requires : tie.Need-find-moves-requires
 find-moves-requires c κs = search needs
 
--- src/lib.rt:183:14
 mul-at : tie.Need-mul-at
 mul-at c = let g = c .before .before .before .before .before .before .before .before .before .before .before .before .before .before .before .before .before .before .before .before .before .pre .0 .0 in omega (arith, row-small g (c .before .before .before .before .before .before .before .before .before .before .before .before .before .before .before .before .before .before .before .before .before .args .i) 0 (c .before .before .before .before .before .before .before .before .before .before .before .before .before .before .before .before .before .before .before .before .before .pre .1 .1 .0) (g .ranges .levels .low))
 
--- src/lib.rt:183:14
 mul-at-2 : tie.Need-mul-at-2
 mul-at-2 c =
     let a = c .before .before .before .before .before .before .before .before .before .before .before .before .before .before .before .before .before .before .before .before .before in
     let g = a .pre .0 .0 in
     omega (arith, start-is g (a .args .i), a .pre .1 .1 .1 .most, base-mono (sheetBy (a .args .f) (now (a .args .figures))) (a .args .i) (suc (a .args .i)) (omega arith), g .allowed)
 
--- src/lib.rt:184:5
 relax-words-requires : tie.Need-relax-words-requires
 relax-words-requires c κs =
     let a = c .before .before .before .before .before .before .before .before .before .before .before .before .before .before .before .before .before .before .before .before .before .before .before .before .before .before in
@@ -65,27 +53,21 @@ relax-words-requires c κs =
       ),
     )
 
--- src/lib.rt:161:1
 same-length : tie.Need-same-length
 same-length c = search needs
 
--- src/lib.rt:161:1
 same-length-2 : tie.Need-same-length-2
 same-length-2 c = search needs
 
--- src/lib.rt:161:1
 same-length-3 : tie.Need-same-length-3
 same-length-3 c = search needs
 
--- src/lib.rt:161:1
 same-length-4 : tie.Need-same-length-4
 same-length-4 c = search needs
 
--- src/lib.rt:161:1
 same-length-5 : tie.Need-same-length-5
 same-length-5 c = search needs
 
--- src/lib.rt:161:1
 returns : tie.Need-returns
 returns c =
     let a = c .before .before .before .before .before .before .before .before .before .before .before .before .before .before .before .before .before .before .before .before .before .before .before .before .before .before .before .before .before .before .before in

@@ -5,28 +5,19 @@ use borrow.Author.Needs.{needs}
 use Rattle.names.proofs.Name.{name-none, name-some, name-small}
 use Rattle.names.proofs.job_name.Statement.{statement}
 use Rattle.names.proofs.job_name.Tie as tie
-use Rattle.names.proofs.job_name.Reads as reads
-use Rattle.names.proofs.job_name.Lts as lts
-use Rattle.names.proofs.name_at.Reads as name-at-reads
-use Rattle.sheet.proofs.read.Reads as read-reads
 
--- src/lib.rt:51:9
 read-requires : tie.Need-read-requires
 read-requires c κs = search needs
 
--- src/lib.rt:52:13
 cast-m : tie.Need-cast-m
 cast-m c = search needs
 
--- src/lib.rt:53:13
 cast-l : tie.Need-cast-l
 cast-l c = search needs
 
--- src/lib.rt:55:9
 slice-aggregate-result : tie.Need-slice-aggregate-result
 slice-aggregate-result c = search needs
 
--- src/lib.rt:55:9
 returns : tie.Need-returns
 returns c = sym (name-none _ _ _ (c .before .before .before .before .read .ensures) (search needs))
 
@@ -34,35 +25,27 @@ small : (c : tie.Else1) → let r = c .before .before .before .read .result in
     (r .levels ≤ 8) × (r .levels * r .levels ≤ 8 * 8) × (c .before .before .before .before .before .args .i * (r .levels + 1) ≤ 64 * 9)
 small c = name-small _ _ _ (c .before .before .before .read .ensures) (search needs)
 
--- src/lib.rt:57:16
 add-name-at : tie.Need-add-name-at
 add-name-at c = search needs
 
--- src/lib.rt:57:24
 mul-name-at : tie.Need-mul-name-at
 mul-name-at c = let m = small c in omega arith
 
--- src/lib.rt:57:16
 add-name-at-2 : tie.Need-add-name-at-2
 add-name-at-2 c = let m = small c in omega arith
 
--- src/lib.rt:57:37
 add-name-at-3 : tie.Need-add-name-at-3
 add-name-at-3 c = search needs
 
--- src/lib.rt:57:32
 mul-name-at-2 : tie.Need-mul-name-at-2
 mul-name-at-2 c = let m = small c in omega arith
 
--- src/lib.rt:57:16
 add-name-at-4 : tie.Need-add-name-at-4
 add-name-at-4 c = let m = small c in omega arith
 
--- src/lib.rt:57:5
 name-at-requires : tie.Need-name-at-requires
 name-at-requires c κs = search needs
 
--- src/lib.rt:48:1
 returns-2 : tie.Need-returns-2
 returns-2 c = c .name-at .ensures ∙ sym (name-some _ _ _ (c .before .before .before .before .read .ensures) (search needs))
 

@@ -5,30 +5,21 @@ use Rattle.plan_text.proofs.Writing.{named-line}
 use borrow.Author.Needs.{needs}
 use Rattle.plan_text.proofs.put_job.Statement.{statement}
 use Rattle.plan_text.proofs.put_job.Tie as tie
-use Rattle.plan_text.proofs.put_job.Reads as reads
-use Rattle.plan_text.proofs.put_job.Lts as lts
-use Rattle.names.proofs.second_field.Reads as second-field-reads
-use Rattle.plan_lines.proofs.put_job_line.Reads as put-job-line-reads
 
--- src/lib.rt:23:17
 cast-level : tie.Need-cast-level
 cast-level c = search needs
 
--- src/lib.rt:27:9
 second-field-requires : tie.Need-second-field-requires
 second-field-requires c κs = search needs
 
--- src/lib.rt:28:5
 put-job-line-requires : tie.Need-put-job-line-requires
 put-job-line-requires c κs =
     let a = c .before .before .before .before .before in
     (omega (arith, a .good), omega (arith, a .pre .1), omega (arith, a .pre .1), omega (arith, a .pre .1), omega (arith, ap length (c .before .second-field .ensures), a .pre .0 .1), a .pre .0 .2)
 
--- src/lib.rt:17:1
 same-length : tie.Need-same-length
 same-length c = search needs
 
--- src/lib.rt:17:1
 returns : tie.Need-returns
 returns c = let v = c .before .before .put-job-line .ensures in (named-line _ _ _ _ _ _ _ _ _ _ (c .before .before .before .before .second-field .ensures) (v .0), v .1)
 

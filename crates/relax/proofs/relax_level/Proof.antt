@@ -11,10 +11,6 @@ use Rattle.relax.proofs.Opening.{lows-later, span-more, open-leads}
 use borrow.Author.Needs.{needs}
 use Rattle.relax.proofs.relax_level.Statement.{statement}
 use Rattle.relax.proofs.relax_level.Tie as tie
-use Rattle.relax.proofs.relax_level.Reads as reads
-use Rattle.relax.proofs.relax_level.Lts as lts
-use Rattle.relax.proofs.find_ways.Reads as find-ways-reads
-use Rattle.ways.proofs.take_span.Reads as take-span-reads
 
 abbrev Inv-loop : tie.InvT-loop
 Inv-loop table part₀ at levels cells shifts reaches times p x n froms₀ costs₀ y₀ part froms costs y =

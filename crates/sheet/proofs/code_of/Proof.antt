@@ -2,9 +2,6 @@ use Rattle.sheet.proofs.Apart.{code-same}
 use borrow.Author.Needs.{needs}
 use Rattle.sheet.proofs.code_of.Statement.{statement}
 use Rattle.sheet.proofs.code_of.Tie as tie
-use Rattle.sheet.proofs.code_of.Reads as reads
-use Rattle.sheet.proofs.code_of.Lts as lts
-use Rattle.sheet.proofs.code.Reads as code-reads
 
 enum-told : tie.Need-enum-told
 enum-told c = search needs

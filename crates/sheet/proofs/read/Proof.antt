@@ -7,35 +7,22 @@ use Rattle.sheet.specs.Reading.{refusedAs, versionRow}
 use Rattle.sheet.proofs.Head.{sheet-long, sheet-missing, sheet-fault, sheet-on}
 use Rattle.sheet.proofs.read.Statement.{statement}
 use Rattle.sheet.proofs.read.Tie as tie
-use Rattle.sheet.proofs.read.Reads as reads
-use Rattle.sheet.proofs.read.Lts as lts
-use Rattle.rows.proofs.read_row.Reads as read-row-reads
-use Rattle.sheet.proofs.as_refusal.Reads as as-refusal-reads
-use Rattle.sheet.proofs.read_from_head.Reads as read-from-head-reads
-use Rattle.sheet.proofs.refused.Reads as refused-reads
-use Rattle.text.proofs.scan_line.Reads as scan-line-reads
 
--- src/lib.rt:282:9
 refused-requires : tie.Need-refused-requires
 refused-requires c κs = search needs
 
--- src/lib.rt:282:9
 returns : tie.Need-returns
 returns c = c .refused .ensures ∙ sheet-long _ (search needs)
 
--- src/lib.rt:284:9
 scan-line-requires : tie.Need-scan-line-requires
 scan-line-requires c κs = search needs
 
--- src/lib.rt:287:9
 refused-requires-2 : tie.Need-refused-requires-2
 refused-requires-2 c κs = search needs
 
--- src/lib.rt:287:9
 returns-2 : tie.Need-returns-2
 returns-2 c = c .refused2 .ensures ∙ sheet-missing _ (search needs) _ (c .before .before .scan-line .ensures) (search needs)
 
--- src/lib.rt:291:9
 read-row-requires : tie.Need-read-row-requires
 read-row-requires c κs = let z = c .before .scan-line .ensures in (search needs, z .within, search needs, line-tabs z, search needs)
 
@@ -46,27 +33,21 @@ version : (c : tie.After-read-row) → numbersIn (c .before .before .before .bef
 unfolding versionRow
 version c = c .read-row .ensures
 
--- src/lib.rt:294:24
 as-refusal-requires : tie.Need-as-refusal-requires
 as-refusal-requires c κs = search needs
 
--- src/lib.rt:294:9
 refused-requires-3 : tie.Need-refused-requires-3
 refused-requires-3 c κs = search needs
 
--- src/lib.rt:294:9
 returns-3 : tie.Need-returns-3
 returns-3 c = c .refused3 .ensures ∙ ap refusedAs (c .before .as-refusal .ensures) ∙ sheet-fault _ (search needs) _ (c .before .before .before .before .before .scan-line .ensures) (search needs) _ (version (c .before .before .before)) (c .before .before .match .keys2)
 
--- src/lib.rt:296:23
 add-read-from-head : tie.Need-add-read-from-head
 add-read-from-head c = search needs
 
--- src/lib.rt:296:5
 read-from-head-requires : tie.Need-read-from-head-requires
 read-from-head-requires c κs = search needs
 
--- src/lib.rt:278:1
 returns-4 : tie.Need-returns-4
 returns-4 c = c .read-from-head .ensures ∙ sheet-on _ (search needs) _ (c .before .before .before .before .before .scan-line .ensures) (search needs) _ (version (c .before .before .before)) (c .before .enum-told .given .1)
 

@@ -2,55 +2,41 @@ use Rattle.sheet.proofs.Body.{body-levels, body-changes, body-jobs}
 use borrow.Author.Needs.{needs}
 use Rattle.sheet.proofs.read_body.Statement.{statement}
 use Rattle.sheet.proofs.read_body.Tie as tie
-use Rattle.sheet.proofs.read_body.Reads as reads
-use Rattle.sheet.proofs.read_body.Lts as lts
-use Rattle.lines.proofs.read_block.Reads as read-block-reads
-use Rattle.sheet.proofs.read_changes.Reads as read-changes-reads
-use Rattle.sheet.proofs.read_jobs.Reads as read-jobs-reads
 
--- src/lib.rt:83:9
 read-block-requires : tie.Need-read-block-requires
 read-block-requires c κs = search needs
 
 enum-told : tie.Need-enum-told
 enum-told c = search needs
 
--- src/lib.rt:86:9
 same-length : tie.Need-same-length
 same-length c = search needs
 
--- src/lib.rt:86:9
 returns : tie.Need-returns
 returns c =
     let x = c .before .before .before .before .before .before .before .args in
     body-levels (x .s .now) (x .at) (x .m) (x .l) (x .resistance) (x .store .now) (search needs) (search needs) (c .before .before .before .read-block .ensures) (c .match .keys2)
 
--- src/lib.rt:90:9
 read-changes-requires : tie.Need-read-changes-requires
 read-changes-requires c κs = search needs
 
 enum-told-2 : tie.Need-enum-told-2
 enum-told-2 c = search needs
 
--- src/lib.rt:93:9
 same-length-2 : tie.Need-same-length-2
 same-length-2 c = search needs
 
--- src/lib.rt:93:9
 returns-2 : tie.Need-returns-2
 returns-2 c =
     let x = c .before .before .before .before .before .before .before .before .before .before .before .before .before .args in
     body-changes (x .s .now) (x .at) (x .m) (x .l) (x .resistance) (x .store .now) (search needs) (search needs) (c .before .before .before .before .before .before .before .before .before .read-block .ensures) (c .before .before .before .before .before .enum-told .given .1) (c .before .before .before .read-changes .ensures) (c .match2 .keys2)
 
--- src/lib.rt:97:5
 read-jobs-requires : tie.Need-read-jobs-requires
 read-jobs-requires c κs = search needs
 
--- src/lib.rt:79:1
 same-length-3 : tie.Need-same-length-3
 same-length-3 c = search needs
 
--- src/lib.rt:79:1
 returns-3 : tie.Need-returns-3
 returns-3 c =
     let x = c .before .before .before .before .before .before .before .before .before .before .before .before .before .before .before .before .before .before .args in

@@ -4,9 +4,6 @@ use Rattle.sheet.proofs.Body.{Changes, changes-none, changes-all, chang
 use borrow.Author.Needs.{needs}
 use Rattle.sheet.proofs.read_changes.Statement.{statement}
 use Rattle.sheet.proofs.read_changes.Tie as tie
-use Rattle.sheet.proofs.read_changes.Reads as reads
-use Rattle.sheet.proofs.read_changes.Lts as lts
-use Rattle.lines.proofs.read_block.Reads as read-block-reads
 
 abbrev Inv-loop : tie.InvT-loop
 Inv-loop s at line l store₀ q₀ a₀ p₀ store q a p = Changes s at line l store₀ store a q p
@@ -14,46 +11,36 @@ Inv-loop s at line l store₀ q₀ a₀ p₀ store q a p = Changes s at line l s
 abbrev μ-loop : tie.MeasureT-loop
 μ-loop s at line l store₀ q₀ a₀ p₀ store q a p = l - p
 
--- src/lib.rt:18:5
 loop-holds : tie.Need-loop-holds Inv-loop μ-loop
 loop-holds c = changes-none _ _ _ _ _ (search needs) (search needs) (search needs) (search needs)
 
--- src/lib.rt:19:61
 mul-read-block : tie.Need-mul-read-block Inv-loop μ-loop
 mul-read-block c = search needs
 
--- src/lib.rt:19:13
 read-block-requires : tie.Need-read-block-requires Inv-loop μ-loop
 read-block-requires c κs = let g = c .before .before .loop .inv in (g .within, omega arith, omega arith, g .long)
 
 enum-told : tie.Need-enum-told Inv-loop μ-loop
 enum-told c = search needs
 
--- src/lib.rt:22:13
 same-length : tie.Need-same-length Inv-loop μ-loop
 same-length c = search needs
 
--- src/lib.rt:22:13
 returns : tie.Need-returns Inv-loop μ-loop
 returns c = changes-stop (c .before .before .before .before .before .before .loop .inv) (search needs) _ _ (c .before .before .before .read-block .ensures) (c .match .keys2)
 
--- src/lib.rt:26:9
 add-p : tie.Need-add-p Inv-loop μ-loop
 add-p c = search needs
 
--- src/lib.rt:18:5
 loop-less : tie.Need-loop-less Inv-loop μ-loop
 loop-less c = search needs
 
--- src/lib.rt:18:5
 loop-again : tie.Need-loop-again Inv-loop μ-loop
 loop-again c = changes-on (c .before .before .before .before .before .before .before .loop .inv) (search needs) _ _ (c .before .before .before .before .read-block .ensures) (c .enum-told .given .1)
 
--- src/lib.rt:11:1
 same-length-2 : tie.Need-same-length-2 Inv-loop μ-loop
 same-length-2 c = search needs
 
--- src/lib.rt:11:1
 returns-2 : tie.Need-returns-2 Inv-loop μ-loop
 returns-2 c = changes-all (c .before .loop .inv) (search needs)
 

@@ -6,73 +6,52 @@ use Rattle.sheet.specs.Reading.{refusedAs}
 use Rattle.sheet.proofs.Head.{from-head-missing, from-head-fault, from-head-hot, from-head-on, head-counts}
 use Rattle.sheet.proofs.read_from_head.Statement.{statement}
 use Rattle.sheet.proofs.read_from_head.Tie as tie
-use Rattle.sheet.proofs.read_from_head.Reads as reads
-use Rattle.sheet.proofs.read_from_head.Lts as lts
-use Rattle.sheet.proofs.as_refusal.Reads as as-refusal-reads
-use Rattle.sheet.proofs.read_figures.Reads as read-figures-reads
-use Rattle.sheet.proofs.read_head.Reads as read-head-reads
-use Rattle.sheet.proofs.refused.Reads as refused-reads
-use Rattle.text.proofs.scan_line.Reads as scan-line-reads
 
--- src/lib.rt:259:9
 scan-line-requires : tie.Need-scan-line-requires
 scan-line-requires c κs = search needs
 
--- src/lib.rt:262:9
 refused-requires : tie.Need-refused-requires
 refused-requires c κs = search needs
 
--- src/lib.rt:262:9
 returns : tie.Need-returns
 returns c = c .refused .ensures ∙ from-head-missing _ _ _ (c .before .before .scan-line .ensures) (search needs) (search needs)
 
--- src/lib.rt:265:9
 read-head-requires : tie.Need-read-head-requires
 read-head-requires c κs = let z = c .before .scan-line .ensures in (line-from z, z .within, line-tabs z)
 
 enum-told : tie.Need-enum-told
 enum-told c = search needs
 
--- src/lib.rt:268:24
 as-refusal-requires : tie.Need-as-refusal-requires
 as-refusal-requires c κs = search needs
 
--- src/lib.rt:268:9
 refused-requires-2 : tie.Need-refused-requires-2
 refused-requires-2 c κs = search needs
 
--- src/lib.rt:268:9
 returns-2 : tie.Need-returns-2
 returns-2 c = c .refused2 .ensures ∙ ap refusedAs (c .before .as-refusal .ensures) ∙ from-head-fault _ _ _ (c .before .before .before .before .before .scan-line .ensures) (search needs) _ (c .before .before .before .read-head .ensures) (c .before .before .match .keys2)
 
--- src/lib.rt:271:8
 array-read-if2 : tie.Need-array-read-if2
 array-read-if2 c = search needs
 
--- src/lib.rt:271:20
 array-read-if2-2 : tie.Need-array-read-if2-2
 array-read-if2-2 c = search needs
 
--- src/lib.rt:272:9
 refused-requires-3 : tie.Need-refused-requires-3
 refused-requires-3 c κs = search needs
 
--- src/lib.rt:272:9
 returns-3 : tie.Need-returns-3
 returns-3 c = c .refused3 .ensures ∙ from-head-hot _ _ _ (c .before .before .before .before .before .before .before .scan-line .ensures) (search needs) _ (c .before .before .before .before .before .read-head .ensures) (c .before .before .before .enum-told .given .1) (c .before .if2 .taken)
 
--- src/lib.rt:274:21
 add-read-figures : tie.Need-add-read-figures
 add-read-figures c = search needs
 
--- src/lib.rt:274:5
 read-figures-requires : tie.Need-read-figures-requires
 read-figures-requires c κs =
     let m = head-counts _ _ _ (c .before .before .before .before .before .before .scan-line .ensures) (search needs) _ (c .before .before .before .before .read-head .ensures) (c .before .before .enum-told .given .1) in
     let z = c .before .before .before .before .before .before .scan-line .ensures in
     (omega (arith, z .within, c .before .before .before .before .before .if1 .left), m .0, m .1)
 
--- src/lib.rt:255:1
 returns-4 : tie.Need-returns-4
 returns-4 c = c .read-figures .ensures ∙ from-head-on _ _ _ (c .before .before .before .before .before .before .before .scan-line .ensures) (search needs) _ (c .before .before .before .before .before .read-head .ensures) (c .before .before .before .enum-told .given .1) (c .before .if2 .left)
 

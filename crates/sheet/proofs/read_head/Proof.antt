@@ -10,28 +10,19 @@ use Rattle.sheet.specs.Reading.{headLos, headHis}
 use Rattle.sheet.proofs.Head.{head-shape, head-other, head-rest}
 use Rattle.sheet.proofs.read_head.Statement.{statement}
 use Rattle.sheet.proofs.read_head.Tie as tie
-use Rattle.sheet.proofs.read_head.Reads as reads
-use Rattle.sheet.proofs.read_head.Lts as lts
-use Rattle.rows.proofs.opens_with.Reads as opens-with-reads
-use Rattle.rows.proofs.read_numbers.Reads as read-numbers-reads
-use Rattle.sheet.proofs.less_one.Reads as less-one-reads
 
--- src/lib.rt:195:9
 opens-with-requires : tie.Need-opens-with-requires
 opens-with-requires c κs = search needs
 
--- src/lib.rt:196:9
 returns : tie.Need-returns
 returns c = head-shape _ _ _ (search needs) (search needs) (sym (c .before .opens-with .ensures) ∙ not-true _ (c .if1 .taken))
 
 opened : (c : tie.Else1) → opens 72 10 (part (c .before .before .before .args .from) (c .before .before .before .args .to) (c .before .before .before .args .s .now)) ≡ true
 opened c = sym (c .before .opens-with .ensures) ∙ not-false _ (c .if1 .left)
 
--- src/lib.rt:204:35
 add-read-numbers : tie.Need-add-read-numbers
 add-read-numbers c = search needs
 
--- src/lib.rt:204:9
 read-numbers-requires : tie.Need-read-numbers-requires
 read-numbers-requires c κs =
     let l = opens-some _ _ _ _ _ (search needs) (search needs) (opened c) in
@@ -40,27 +31,21 @@ read-numbers-requires c κs =
 enum-told : tie.Need-enum-told
 enum-told c = search needs
 
--- src/lib.rt:207:9
 returns-2 : tie.Need-returns-2
 returns-2 c = head-other _ _ _ (search needs) (search needs) (opened (c .before .before)) _ (c .before .read-numbers .ensures .0) (c .match .keys2)
 
--- src/lib.rt:211:23
 array-read-less-one : tie.Need-array-read-less-one
 array-read-less-one c = search needs
 
--- src/lib.rt:211:14
 less-one-requires : tie.Need-less-one-requires
 less-one-requires c κs = search needs
 
--- src/lib.rt:211:5
 array-write-top : tie.Need-array-write-top
 array-write-top c = search needs
 
--- src/lib.rt:213:5
 read-numbers-requires-2 : tie.Need-read-numbers-requires-2
 read-numbers-requires-2 c κs = search needs
 
--- src/lib.rt:190:1
 returns-3 : tie.Need-returns-3
 returns-3 c =
     let a = c .before .before .before .before .before .before .before .before .before .args in

@@ -4,10 +4,6 @@ use Rattle.sheet.proofs.Body.{Jobs, jobs-none, jobs-all, jobs-name, job
 use borrow.Author.Needs.{needs}
 use Rattle.sheet.proofs.read_jobs.Statement.{statement}
 use Rattle.sheet.proofs.read_jobs.Tie as tie
-use Rattle.sheet.proofs.read_jobs.Reads as reads
-use Rattle.sheet.proofs.read_jobs.Lts as lts
-use Rattle.lines.proofs.read_block.Reads as read-block-reads
-use Rattle.sheet.proofs.read_name.Reads as read-name-reads
 
 abbrev Inv-loop : tie.InvT-loop
 Inv-loop s at line l m store₀ q₀ a₀ i₀ store q a i = Jobs s at line l m store₀ store a q i
@@ -15,65 +11,51 @@ Inv-loop s at line l m store₀ q₀ a₀ i₀ store q a i = Jobs s at line l m 
 abbrev μ-loop : tie.MeasureT-loop
 μ-loop s at line l m store₀ q₀ a₀ i₀ store q a i = m - i
 
--- src/lib.rt:78:5
 loop-holds : tie.Need-loop-holds Inv-loop μ-loop
 loop-holds c = jobs-none _ _ _ _ _ _ (search needs) (search needs) (search needs) (search needs)
 
--- src/lib.rt:79:13
 read-name-requires : tie.Need-read-name-requires Inv-loop μ-loop
 read-name-requires c κs = search needs
 
 enum-told : tie.Need-enum-told Inv-loop μ-loop
 enum-told c = search needs
 
--- src/lib.rt:82:13
 same-length : tie.Need-same-length Inv-loop μ-loop
 same-length c = search needs
 
--- src/lib.rt:82:13
 returns : tie.Need-returns Inv-loop μ-loop
 returns c = jobs-name (c .before .before .before .loop .inv) (search needs) _ (c .before .read-name .ensures) (c .match .keys2)
 
--- src/lib.rt:88:46
 add-read-block : tie.Need-add-read-block Inv-loop μ-loop
 add-read-block c = search needs
 
--- src/lib.rt:88:65
 mul-read-block : tie.Need-mul-read-block Inv-loop μ-loop
 mul-read-block c = search needs
 
--- src/lib.rt:88:13
 read-block-requires : tie.Need-read-block-requires Inv-loop μ-loop
 read-block-requires c κs = let g = c .before .before .before .before .before .loop .inv in (c .before .before .before .read-name .ensures .within (c .before .enum-told .given .1), omega arith, omega arith, g .long)
 
 enum-told-2 : tie.Need-enum-told-2 Inv-loop μ-loop
 enum-told-2 c = search needs
 
--- src/lib.rt:91:13
 same-length-2 : tie.Need-same-length-2 Inv-loop μ-loop
 same-length-2 c = search needs
 
--- src/lib.rt:91:13
 returns-2 : tie.Need-returns-2 Inv-loop μ-loop
 returns-2 c = jobs-stop (c .before .before .before .before .before .before .before .before .before .loop .inv) (search needs) _ (c .before .before .before .before .before .before .before .read-name .ensures) (c .before .before .before .before .before .enum-told .given .1) _ _ (c .before .before .before .read-block .ensures) (c .match2 .keys2)
 
--- src/lib.rt:95:9
 add-i : tie.Need-add-i Inv-loop μ-loop
 add-i c = search needs
 
--- src/lib.rt:78:5
 loop-less : tie.Need-loop-less Inv-loop μ-loop
 loop-less c = search needs
 
--- src/lib.rt:78:5
 loop-again : tie.Need-loop-again Inv-loop μ-loop
 loop-again c = jobs-on (c .before .before .before .before .before .before .before .before .before .before .loop .inv) (search needs) _ (c .before .before .before .before .before .before .before .before .read-name .ensures) (c .before .before .before .before .before .before .enum-told .given .1) _ _ (c .before .before .before .before .read-block .ensures) (c .enum-told2 .given .1)
 
--- src/lib.rt:71:1
 same-length-3 : tie.Need-same-length-3 Inv-loop μ-loop
 same-length-3 c = search needs
 
--- src/lib.rt:71:1
 returns-3 : tie.Need-returns-3 Inv-loop μ-loop
 returns-3 c = jobs-all (c .before .loop .inv) (search needs)
 

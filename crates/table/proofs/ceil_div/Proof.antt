@@ -2,22 +2,16 @@ use Rattle.thermal.specs.Rounding.{ceilDiv}
 use borrow.Author.Needs.{needs}
 use Rattle.table.proofs.ceil_div.Statement.{statement}
 use Rattle.table.proofs.ceil_div.Tie as tie
-use Rattle.table.proofs.ceil_div.Reads as reads
-use Rattle.table.proofs.ceil_div.Lts as lts
 
--- src/lib.rt:34:11
 sub-result : tie.Need-sub-result
 sub-result c = search needs
 
--- src/lib.rt:34:6
 add-result : tie.Need-add-result
 add-result c = search needs
 
--- src/lib.rt:34:5
 div-result : tie.Need-div-result
 div-result c = search needs
 
--- src/lib.rt:30:1
 returns : tie.Need-returns
 unfolding ceilDiv
 returns c = search needs

@@ -10,9 +10,6 @@ use Rattle.table.specs.Table.{choiceOf, sheetBy, restBy}
 use Rattle.table.proofs.Lookup.{least-none, least-more, first-none, first-less, first-kept}
 use Rattle.table.proofs.choose.Statement.{statement}
 use Rattle.table.proofs.choose.Tie as tie
-use Rattle.table.proofs.choose.Reads as reads
-use Rattle.table.proofs.choose.Lts as lts
-use Rattle.table.proofs.way.Reads as way-reads
 
 abbrev Inv-loop : tie.InvT-loop
 Inv-loop f figures steady table a l least₀ first₀ j₀ least first j = let w = via (sheetBy f figures) (restBy (sheetBy f figures) table) (stateOf a) in
@@ -25,23 +22,18 @@ abbrev μ-loop : tie.MeasureT-loop
 abbrev ways : tie.Start Inv-loop μ-loop → ℕ → ℕ
 ways c = via (sheetBy (c .args .f) (now (c .args .figures))) (restBy (sheetBy (c .args .f) (now (c .args .figures))) (now (c .args .table))) (stateOf (c .args .a))
 
--- src/lib.rt:29:5
 loop-holds : tie.Need-loop-holds Inv-loop μ-loop
 loop-holds c = (omega arith, sym (least-none _), sym (first-none _))
 
--- src/lib.rt:30:13
 way-requires : tie.Need-way-requires Inv-loop μ-loop
 way-requires c κs = let a = c .before .before .before .pre in (a .0, (a .1, omega (arith, a .0 .0 .levels, c .loop-test .taken)))
 
--- src/lib.rt:35:9
 add-j : tie.Need-add-j Inv-loop μ-loop
 add-j c = omega (arith, c .before .before .loop-test .taken, c .before .before .before .before .before .pre .0 .0 .levels, c .before .before .before .before .before .pre .0 .0 .ranges .levels .high)
 
--- src/lib.rt:29:5
 loop-less : tie.Need-loop-less Inv-loop μ-loop
 loop-less c = omega (arith, c .before .before .loop-test .taken)
 
--- src/lib.rt:29:5
 loop-again : tie.Need-loop-again Inv-loop μ-loop
 loop-again c =
     let l = c .before .before .before .loop in
@@ -56,7 +48,6 @@ loop-again c =
           (c .if1 .came),
     )
 
--- src/lib.rt:18:1
 returns : tie.Need-returns Inv-loop μ-loop
 returns c =
     let i = c .before .loop .inv in

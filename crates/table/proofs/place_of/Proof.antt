@@ -6,37 +6,28 @@ use Rattle.table.specs.Table.{placeBy}
 use borrow.Author.Needs.{needs}
 use Rattle.table.proofs.place_of.Statement.{statement}
 use Rattle.table.proofs.place_of.Tie as tie
-use Rattle.table.proofs.place_of.Reads as reads
-use Rattle.table.proofs.place_of.Lts as lts
-use Rattle.table.proofs.ceil_div.Reads as ceil-div-reads
 
--- src/lib.rt:57:22
 cast-ceil-div : tie.Need-cast-ceil-div
 cast-ceil-div c = search needs
 
--- src/lib.rt:42:13
 ceil-div-requires : tie.Need-ceil-div-requires
 ceil-div-requires c κs = search needs
 
 cast-a : tie.Need-cast-a
 cast-a c = search needs
 
--- src/lib.rt:58:22
 cast-ceil-div-2 : tie.Need-cast-ceil-div-2
 cast-ceil-div-2 c = search needs
 
--- src/lib.rt:43:13
 ceil-div-requires-2 : tie.Need-ceil-div-requires-2
 ceil-div-requires-2 c κs = search needs
 
 cast-t : tie.Need-cast-t
 cast-t c = search needs
 
--- src/lib.rt:44:15
 cast-row : tie.Need-cast-row
 cast-row c = search needs
 
--- src/lib.rt:44:33
 cast-row-2 : tie.Need-cast-row-2
 cast-row-2 c = search needs
 
@@ -62,35 +53,27 @@ parts c =
     let o : energy-row c < 4194304 = omega (arith, w, le-mul-of-pos-right (energy-row c) (s .0 .temperature-cells)) in
     (omega (arith, o, le-mul-of-pos-right (job-level c) (s .0 .energy-cells)), o, w)
 
--- src/lib.rt:44:15
 mul-row : tie.Need-mul-row
 mul-row c = omega (arith, parts (c .before .before))
 
--- src/lib.rt:44:53
 cast-row-3 : tie.Need-cast-row-3
 cast-row-3 c = search needs
 
--- src/lib.rt:44:15
 add-row : tie.Need-add-row
 add-row c = omega (arith, parts (c .before .before .before))
 
--- src/lib.rt:45:6
 mul-result : tie.Need-mul-result
 mul-result c = omega (arith, parts (c .before .before .before .before))
 
--- src/lib.rt:45:6
 add-result : tie.Need-add-result
 add-result c = omega (arith, parts (c .before .before .before .before))
 
--- src/lib.rt:45:5
 mul-result-2 : tie.Need-mul-result-2
 mul-result-2 c = omega (arith, parts (c .before .before .before .before .before))
 
--- src/lib.rt:45:5
 add-result-2 : tie.Need-add-result-2
 add-result-2 c = omega (arith, parts (c .before .before .before .before .before))
 
--- src/lib.rt:38:1
 returns : tie.Need-returns
 returns c = is-place (c .before .before .before .before .before)
 

@@ -6,33 +6,24 @@ use lib.ListN.{getD}
 use Rattle.table.proofs.Lookup.{rest-word, rest-none}
 use Rattle.table.proofs.rest_of.Statement.{statement}
 use Rattle.table.proofs.rest_of.Tie as tie
-use Rattle.table.proofs.rest_of.Reads as reads
-use Rattle.table.proofs.rest_of.Lts as lts
-use Rattle.table.proofs.place_of.Reads as place-of-reads
 
--- src/lib.rt:54:13
 place-of-requires : tie.Need-place-of-requires
 place-of-requires c κs = let q = c .before .before .before .before .pre (c .if1 .taken) in (q .0, q .1)
 
--- src/lib.rt:55:9
 mul-result : tie.Need-mul-result
 mul-result c = omega (arith, c .place-of .ensures, c .before .before .before .before .before .pre (c .before .if1 .taken) .1)
 
--- src/lib.rt:55:9
 shared-slice-read-result : tie.Need-shared-slice-read-result
 shared-slice-read-result c = omega (arith, c .before .place-of .ensures, c .before .before .before .before .before .before .pre (c .before .before .if1 .taken) .2)
 
--- src/lib.rt:55:9
 cast-result : tie.Need-cast-result
 cast-result c = search (needs, c .shared-slice-known2 .given (c .before .place-of .result))
 
--- src/lib.rt:49:1
 returns : tie.Need-returns
 returns c =
     let a = c .before .before .before .before .before .before .args in
     ap (λ (k : ℕ). getD (a .table .now) k 0) (c .before .place-of .ensures) ∙ sym (rest-word (a .f) (a .table .now) (a .b) (c .before .before .if1 .taken))
 
--- src/lib.rt:49:1
 returns-2 : tie.Need-returns-2
 returns-2 c = sym (rest-none _ _ _ (c .if1 .left))
 

@@ -10,12 +10,7 @@ use Rattle.table.specs.Table.{sheetBy, restBy}
 use Rattle.table.proofs.Lookup.{rest-small, way-short, way-energy, way-temperature, way-within, way-looks}
 use Rattle.table.proofs.way.Statement.{statement}
 use Rattle.table.proofs.way.Tie as tie
-use Rattle.table.proofs.way.Reads as reads
-use Rattle.table.proofs.way.Lts as lts
-use Rattle.step.proofs.next_job.Reads as next-job-reads
-use Rattle.table.proofs.rest_of.Reads as rest-of-reads
 
--- src/lib.rt:76:9
 next-job-requires : tie.Need-next-job-requires
 next-job-requires c κs =
     let a = c .before .pre in
@@ -27,26 +22,22 @@ next-job-requires c κs =
 stepped : (c : tie.After-next-job) → stateOf (c .next-job .result) ≡ step (sheetBy (c .before .before .args .f) (now (c .before .before .args .figures))) (stateOf (c .before .before .args .a)) (c .before .before .args .j)
 stepped c = c .next-job .ensures _ (c .before .before .pre .0 .1)
 
--- src/lib.rt:78:9
 returns : tie.Need-returns
 returns c =
     let a = c .before .before .before .before .before in
     way-energy (a .pre .0 .0) (a .pre .1 .0) (a .pre .1 .1) _ (stepped (c .before .before .before)) _ (c .if1 .taken)
 
--- src/lib.rt:81:9
 returns-2 : tie.Need-returns-2
 returns-2 c =
     let a = c .before .before .before .before .before .before .before .before in
     way-temperature (a .pre .0 .0) (a .pre .1 .0) (a .pre .1 .1) _ (stepped (c .before .before .before .before .before .before)) _ (c .before .before .before .if1 .left) (c .if2 .taken)
 
--- src/lib.rt:83:22
 rest-of-requires : tie.Need-rest-of-requires
 rest-of-requires c κs = λ d.
     let a = c .before .before .before .before .before .before .before .before in
     let q = way-looks (a .pre .0 .0) (a .pre .1 .0) (a .pre .1 .1) _ (stepped (c .before .before .before .before .before .before)) (c .before .before .before .if1 .left) (c .if2 .left) d in
     (q .0, omega (arith, q .1, a .pre .0 .0 .allowed), omega (arith, q .1, a .pre .0 .2))
 
--- src/lib.rt:83:13
 add-t : tie.Need-add-t
 add-t c =
     let a = c .before .before .before .before .before .before .before .before .before .before in
@@ -59,11 +50,9 @@ within c =
     let a = c .before .before .before .before .before .before .before .before .before .before in
     way-within (a .pre .0 .0) (a .pre .1 .0) (a .pre .1 .1) _ (stepped (c .before .before .before .before .before .before .before .before)) (c .before .before .before .before .before .if1 .left) (c .before .before .if2 .left) _ _ (c .before .rest-of .ensures)
 
--- src/lib.rt:62:1
 returns-3 : tie.Need-returns-3
 returns-3 c = omega (arith, within (c .before), c .if3 .taken)
 
--- src/lib.rt:62:1
 returns-4 : tie.Need-returns-4
 returns-4 c = omega (arith, within (c .before), c .if3 .left)
 

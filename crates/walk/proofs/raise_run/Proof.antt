@@ -7,16 +7,10 @@ use Rattle.frame.specs.Run.{fresh}
 use borrow.Author.Needs.{needs}
 use Rattle.walk.proofs.raise_run.Statement.{statement}
 use Rattle.walk.proofs.raise_run.Tie as tie
-use Rattle.walk.proofs.raise_run.Reads as reads
-use Rattle.walk.proofs.raise_run.Lts as lts
-use Rattle.run.proofs.Run.fresh.Reads as fresh-reads
-use Rattle.table.proofs.ceil_div.Reads as ceil-div-reads
 
--- src/lib.rt:22:34
 cast-ceil-div : tie.Need-cast-ceil-div
 cast-ceil-div c = search needs
 
--- src/lib.rt:22:18
 ceil-div-requires : tie.Need-ceil-div-requires
 ceil-div-requires c κs = search needs
 
@@ -35,35 +29,27 @@ raised-temperature c = ap (λ (q : ℕ). q * c .before .before .before .before .
 small-temperature : (c : tie.After-ceil-div2) → c .ceil-div2 .result * c .before .before .before .before .before .args .f .«temperature_step» ≤ 4000000000
 small-temperature c = let a = c .before .before .before .before .before in omega (arith, raised-temperature c, raise-le (a .args .f .«temperature_step») (a .args .b .temperature), a .pre)
 
--- src/lib.rt:22:18
 mul-energy : tie.Need-mul-energy
 mul-energy c = omega (arith, small-energy (c .before))
 
--- src/lib.rt:23:39
 cast-ceil-div-2 : tie.Need-cast-ceil-div-2
 cast-ceil-div-2 c = search needs
 
--- src/lib.rt:23:23
 ceil-div-requires-2 : tie.Need-ceil-div-requires-2
 ceil-div-requires-2 c κs = search needs
 
--- src/lib.rt:23:23
 mul-temperature : tie.Need-mul-temperature
 mul-temperature c = omega (arith, small-temperature (c .before))
 
--- src/lib.rt:25:33
 cast-fresh : tie.Need-cast-fresh
 cast-fresh c = omega (arith, small-energy (c .before .before .before .before))
 
--- src/lib.rt:25:48
 cast-fresh-2 : tie.Need-cast-fresh-2
 cast-fresh-2 c = omega (arith, small-temperature (c .before))
 
--- src/lib.rt:25:5
 fresh-requires : tie.Need-fresh-requires
 fresh-requires c κs = search needs
 
--- src/lib.rt:18:1
 returns : tie.Need-returns
 returns c = c .fresh .ensures ∙ ap₂ (fresh _ _) (raised-energy (c .before .before .before .before .before)) (raised-temperature (c .before .before))
 

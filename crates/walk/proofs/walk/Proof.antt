@@ -15,11 +15,6 @@ use Rattle.table.proofs.Lookup.{raises, next-cell, next-peak}
 use Rattle.walk.proofs.Steps.{cellOf, raised-cell, Going, starts-at, starts-plan, starts-way, going-start, going-level, going-next, going-end}
 use Rattle.walk.proofs.walk.Statement.{statement}
 use Rattle.walk.proofs.walk.Tie as tie
-use Rattle.walk.proofs.walk.Reads as reads
-use Rattle.walk.proofs.walk.Lts as lts
-use Rattle.step.proofs.next_job.Reads as next-job-reads
-use Rattle.table.proofs.choose.Reads as choose-reads
-use Rattle.walk.proofs.raise_run.Reads as raise-run-reads
 
 abbrev Inv-loop : tie.InvT-loop
 Inv-loop f figures steady table part₀ n a₀ i₀ part a i = Going (sheetBy f figures) (stateOf a₀) n part₀ part i (stateOf a)
@@ -27,15 +22,12 @@ Inv-loop f figures steady table part₀ n a₀ i₀ part a i = Going (sheetBy f 
 abbrev μ-loop : tie.MeasureT-loop
 μ-loop f figures steady table part₀ n a₀ i₀ part a i = n - i
 
--- src/lib.rt:66:14
 sub-n : tie.Need-sub-n Inv-loop μ-loop
 sub-n c = let a = c .before .before .before .before .pre in omega (arith, a .1 .1 .0 .done, a .0 .0 .jobs)
 
--- src/lib.rt:66:13
 cast-n : tie.Need-cast-n Inv-loop μ-loop
 cast-n c = let a = c .before .before .before .before .pre in omega (arith, a .0 .0 .jobs, a .0 .0 .ranges .jobs .high)
 
--- src/lib.rt:67:9
 raise-run-requires : tie.Need-raise-run-requires Inv-loop μ-loop
 raise-run-requires c κs = let a = c .before .before .before .before .pre in raises (a .0 .0) _ (a .1 .1 .0 .energy) (a .1 .1 .0 .temperature)
 
@@ -44,7 +36,6 @@ at-start : (c : tie.After-raise-run Inv-loop μ-loop) → let a = c .before .bef
     stateOf (c .raise-run .result) ≡ cellOf (sheetBy (a .f) (now (a .figures))) (stateOf (a .start))
 at-start c = raised-cell (c .before .before .before .before .before .pre .0 .0) (c .before .before .before .before .before .args .start) _ (c .raise-run .ensures)
 
--- src/lib.rt:69:5
 loop-holds : tie.Need-loop-holds Inv-loop μ-loop
 loop-holds c =
     let a = c .before .before .before .before .before .pre in
@@ -57,7 +48,6 @@ loop-holds c =
 inside : (c : tie.In-loop Inv-loop μ-loop) → c .before .loop .i < c .before .before .before .before .before .before .before .args .f .jobs - c .before .before .before .before .before .before .before .args .start .done
 inside c = let a = c .before .before .before .before .before .before .before .pre in omega (arith, c .loop-test .taken, a .0 .0 .jobs, a .1 .1 .0 .done)
 
--- src/lib.rt:70:13
 choose-requires : tie.Need-choose-requires Inv-loop μ-loop
 choose-requires c κs = let a = c .before .before .before .before .before .before .before .pre in (a .0, c .before .loop .inv .at (inside c))
 
@@ -68,15 +58,12 @@ taken c =
     let a = c .before .before .before .before .before .before .before .before in
     going-level (a .pre .0 .0 .ranges) (c .before .before .loop .inv) (inside (c .before)) (now (a .args .table)) (a .pre .1 .0 _) _ (ap (λ (q : Choice). q .level) (c .choose .ensures))
 
--- src/lib.rt:71:19
 cast-part : tie.Need-cast-part Inv-loop μ-loop
 cast-part c = omega (arith, taken c .level, c .before .before .before .before .before .before .before .before .pre .0 .0 .ranges .levels .high)
 
--- src/lib.rt:71:9
 slice-write-part : tie.Need-slice-write-part Inv-loop μ-loop
 slice-write-part c = omega (arith, inside (c .before), c .before .before .loop .inv .long, c .before .before .before .before .before .before .before .before .pre .1 .1 .1, c .before .before .before .before .before .before .before .before .pre .0 .0 .jobs)
 
--- src/lib.rt:72:26
 next-job-requires : tie.Need-next-job-requires Inv-loop μ-loop
 next-job-requires c κs =
     let a = c .before .before .before .before .before .before .before .before .pre in
@@ -89,7 +76,6 @@ stepped : (c : tie.After-next-job Inv-loop μ-loop) → let a = c .before .befor
     stateOf (c .next-job .result) ≡ step (sheetBy (a .f) (now (a .figures))) (stateOf (c .before .before .before .loop .a)) (c .before .choose .result .level)
 stepped c = c .next-job .ensures _ (c .before .before .before .before .before .before .before .before .before .pre .0 .1)
 
--- src/lib.rt:72:9
 raise-run-requires-2 : tie.Need-raise-run-requires-2 Inv-loop μ-loop
 raise-run-requires-2 c κs =
     let a = c .before .before .before .before .before .before .before .before .before .pre in
@@ -99,25 +85,20 @@ raise-run-requires-2 c κs =
     let x = stepped c ∙ sym (next-cell s (c .before .choose .result .level) (l .inv .at (inside (c .before .before)))) in
     raises (a .0 .0) (c .next-job .result) (omega (arith, ap (λ (z : State). z.energy) x, w .energy)) (omega (arith, ap (λ (z : State). z.temperature) x, next-peak s (stateOf (l .a)) (c .before .choose .result .level), w .peak))
 
--- src/lib.rt:73:9
 add-i : tie.Need-add-i Inv-loop μ-loop
 add-i c = omega (arith, inside (c .before .before .before), c .before .before .before .before .before .before .before .before .before .before .pre .0 .0 .jobs, c .before .before .before .before .before .before .before .before .before .before .pre .0 .0 .ranges .jobs .high)
 
--- src/lib.rt:69:5
 loop-less : tie.Need-loop-less Inv-loop μ-loop
 loop-less c = omega (arith, inside (c .before .before .before))
 
--- src/lib.rt:69:5
 loop-again : tie.Need-loop-again Inv-loop μ-loop
 loop-again c =
     let a = c .before .before .before .before .before .before .before .before .before .before in
     going-next (a .pre .0 .0 .ranges) (c .before .before .before .before .loop .inv) (inside (c .before .before .before)) (now (a .args .table)) (a .pre .1 .0 _) _ (ap (λ (q : Choice). q .level) (c .before .before .choose .ensures)) (omega (arith, a .pre .1 .1 .1, a .pre .0 .0 .jobs)) _ _ (stepped (c .before)) (raised-cell (a .pre .0 .0) (c .before .next-job .result) _ (c .raise-run2 .ensures))
 
--- src/lib.rt:51:1
 same-length : tie.Need-same-length Inv-loop μ-loop
 same-length c = c .before .loop .inv .long
 
--- src/lib.rt:51:1
 returns : tie.Need-returns Inv-loop μ-loop
 returns c =
     let a = c .before .before .before .before .before .before .before in
