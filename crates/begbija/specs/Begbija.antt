@@ -7,7 +7,7 @@ use mathlib.Core.Bool.{cond}
 use mathlib.Core.List.{List, [], _∷_}
 use Prim.Native.Nat.{ℕ, _≤_, _<_}
 use lib.Dec.{eqb}
-use lib.IntN.{ℤ, pos, negℤ}
+use lib.IntN.{ℤ, pos, negℤ, natAbs}
 use lib.ListN.{getD, take}
 use Rattle.sheet.specs.Reading.{sheetOf}
 use Rattle.sheet.specs.Frame.{frameOf}
@@ -47,9 +47,20 @@ replyIn w =
       peak = getD w 6 0;
     }
 
--- The six figures of `struct begbija_margins`, of what the measuring call says.
+-- The six figures of `struct begbija_margins`, of what the measuring call says, and what it says by these figures.
 abbrev pub figuresOf : Measured → List ℤ
 figuresOf q = pos (q .refusal) ∷ pos (q .line) ∷ pos (q .field) ∷ q .time ∷ q .energy ∷ q .temperature ∷ []
+
+abbrev pub measuredIn : List ℤ → Measured
+measuredIn w =
+    record {
+      refusal = natAbs (getD w 0 (pos 0));
+      line = natAbs (getD w 1 (pos 0));
+      field = natAbs (getD w 2 (pos 0));
+      time = getD w 3 (pos 0);
+      energy = getD w 4 (pos 0);
+      temperature = getD w 5 (pos 0);
+    }
 
 -- "A plan or "no plan" from the logger's call or `plan` is the planner's with the table used there": the demands in words hold of
 -- a reply and of levels in a part of 64 bytes, and the call's number and text say these, but where the part for the text is

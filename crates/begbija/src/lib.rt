@@ -3,11 +3,12 @@ ghost use mathlib.Core.Path.{_≡_};
 ghost use Prim.Native.Nat.{_<_, _^_};
 ghost use lib.ListN.{length};
 ghost use Rattle.measure.specs.Measure.{measureOf};
+ghost use Rattle.measure.specs.Meaning.{Meaning};
 ghost use Rattle.planner.specs.Answer.{answerOf, Answers};
 ghost use Rattle.planner.specs.Demands.{Demands};
 ghost use Rattle.planner.specs.Need.{wordsOf};
 ghost use Rattle.report.specs.Report.{answerIn, reportOf, partOf};
-ghost use Rattle.begbija.specs.Begbija.{minus, countOrRefusal, textNumber, needNumber, replyIn, figuresOf, TextDemands};
+ghost use Rattle.begbija.specs.Begbija.{minus, countOrRefusal, textNumber, needNumber, replyIn, figuresOf, measuredIn, TextDemands};
 use measure::Measured;
 use planner::Reply;
 
@@ -85,6 +86,7 @@ fn put_margins(m: Measured, margins: &mut [i64; 6])
 pub extern "C" fn begbija_measure(sheet: &[u8], levels: &[u8], margins: &mut [i64; 6]) -> i64
     ensures { λ q. ⌜ q ≡ minus (measureOf (now (sheet .entry)) (now (levels .entry)) .refusal) ⌝ }
     ensures { λ q. ⌜ now (margins .exit) ≡ figuresOf (measureOf (now (sheet .entry)) (now (levels .entry))) ⌝ }
+    ensures { λ q. ⌜ Meaning (now (sheet .entry)) (now (levels .entry)) (measuredIn (now (margins .exit))) ⌝ }
 {
     let m = measure::measure(sheet, levels);
     put_margins(m, margins);

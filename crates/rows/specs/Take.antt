@@ -25,7 +25,7 @@ starts s p letter room = cond (leb (p + room) (length s)) (cond (eqb (getD s p 0
 unfoldable pub isTaken : List ℕ → ℕ → ℕ → (List ℕ → Fault) → Bool
 isTaken s p room fault = cond (leb (p + room) (length s)) (cond (ahead 10 (drop p s)) (isSound (fault (until 10 (drop p s)))) false) false
 
--- The end of the line J that is taken of the text s at place p, or p where none is. It may have 19 bytes: the letter, a byte 9,
+-- The end of the line J that is taken of the text s at place p, or p where none is. The longest has 19 bytes: the letter, a byte 9,
 -- 16 bytes of a name and the byte 10.
 unfoldable pub nameLineEnd : List ℕ → ℕ → ℕ
 nameLineEnd s p = cond (isTaken s p 19 nameFault) (p + before 10 (drop p s)) p

@@ -21,9 +21,11 @@ count-or-refusal-requires c κs = search needs
 
 returns : tie.Need-returns
 returns c =
-    let m = c .before .before .before .measure .ensures .0 in
+    let w = c .before .before .before .measure .ensures in
+    let m = w .0 in
+    let e = c .before .put-margins .ensures in
     let r = c .count-or-refusal in
-    (handed-on (record { sfits = r .ok }) (r .ensures ∙ number-only (c .before .before .before .measure .result .refusal) ∙ ap (λ (q : Measured). minus (q .refusal)) m), c .before .put-margins .ensures ∙ ap figuresOf m)
+    (handed-on (record { sfits = r .ok }) (r .ensures ∙ number-only (c .before .before .before .measure .result .refusal) ∙ ap (λ (q : Measured). minus (q .refusal)) m), (e ∙ ap figuresOf m, rw e (w .1)))
 
 pub begbija-measure-spec : {M : Type 1} → statement M
 begbija-measure-spec =
