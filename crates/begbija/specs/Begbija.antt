@@ -19,6 +19,7 @@ use Rattle.plan_text.specs.Text.{planText}
 use Rattle.report.specs.declared.Report.{Report}
 use Rattle.report.specs.Report.{textLeast}
 
+-- "minus the refusal"; 0 where there is none.
 abbrev pub minus : ℕ → ℤ
 minus refusal = negℤ (pos refusal)
 
@@ -47,10 +48,11 @@ replyIn w =
       peak = getD w 6 0;
     }
 
--- The six figures of `struct begbija_margins`, of what the measuring call says, and what it says by these figures.
+-- The six figures of `struct begbija_margins`, of what the measuring call says.
 abbrev pub figuresOf : Measured → List ℤ
 figuresOf q = pos (q .refusal) ∷ pos (q .line) ∷ pos (q .field) ∷ q .time ∷ q .energy ∷ q .temperature ∷ []
 
+-- What the measuring call says, as these six figures hold it.
 abbrev pub measuredIn : List ℤ → Measured
 measuredIn w =
     record {
