@@ -1,11 +1,12 @@
--- The measuring call in words follows from its equation.
+-- The measuring call in words follows from its equation, and leaves no other answer.
 -- Assumes nothing.
-use mathlib.Core.Path.{_≡_, refl, ap}
+use mathlib.Core.Path.{_≡_, refl, ap, _∙_}
 use mathlib.Core.Bool.{cond}
 use mathlib.Core.List.{List}
 use Prim.Native.Nat.{ℕ, _≤_, _<_}
+use native.Mathlib.Decide.{decLt}
 use native.Mathlib.Omega.{arith}
-use lib.ListN.{length}
+use lib.ListN.{length, getD}
 use lib.Dec.{eqb, ltb}
 use borrow.Author.Tests.{ltb-true, ltb-false, eqb-true, eqb-false}
 use Rattle.frame.specs.Sheet.{Sheet}
@@ -94,3 +95,37 @@ measure-means t js =
 -- Beside the equation, the words.
 pub means : {t js : List ℕ} {q : Measured} → q ≡ measureOf t js → (q ≡ measureOf t js) × Meaning t js q
 means {t} {js} e = (e, rw e (measure-means t js))
+
+-- ---- the words leave one answer
+
+-- The first place is where a level is l or more and none before it is.
+first-only : (l : ℕ) (js : List ℕ) (k : ℕ) → firstAbove l js < length js → l ≤ getD js k 0 → ((i : ℕ) → i < k → getD js i 0 < l) → k ≡ firstAbove l js
+first-only l js k h a b =
+    elim (decLt k (firstAbove l js)) [
+      | yes c ↦ absurd (omega (arith, a, below-before l js k c))
+      | no c ↦
+          elim (decLt (firstAbove l js) k) [
+            | yes d ↦ absurd (omega (arith, above-at l js h, b (firstAbove l js) d))
+            | no d ↦ omega arith
+          ]
+    ]
+
+judged-only : (s : Sheet) (js : List ℕ) (q : Measured) → Judged s js q → let place = firstAbove s.levels js in
+    q ≡ cond (eqb (length js) s.jobs) (cond (ltb place (length js)) (refusedAs 12 0 place) (measuredAs (margins s js))) (refusedAs 11 0 0)
+judged-only s js q w =
+    let place = firstAbove s.levels js in
+    let P : Measured → Type 0 = λ x. q ≡ x in
+    cond-cases P (eqb (length js) s.jobs) _ _
+    (λ m. cond-cases P (ltb place (length js)) _ _
+    (λ h.
+    let k = ltb-true place (length js) h in
+    let e = w .twelve .1 (eqb-true _ _ m, λ b. omega (arith, k, below-none s.levels js b)) in
+    w .level-reply e ∙ ap (refusedAs 12 0) (first-only s.levels js (q .field) k (w .level-place e .0) (w .level-place e .1)))
+    (λ h. w .margins-reply (w .measured .1 (record { size = eqb-true _ _ m; below = none-below s.levels js (ltb-false _ _ h) }))))
+    (λ m. w .length-reply (w .eleven .1 (eqb-false _ _ m)))
+
+pub meaning-unique : (t js : List ℕ) (q : Measured) → Meaning t js q → q ≡ measureOf t js
+unfolding measureOf frameOf
+meaning-unique t js q w =
+    accepted-ways (λ x. q ≡ x) ((sheetOf t) .refusal) turnedAway _ (λ l h. w .fails (λ e. omega (arith, l, ap numberOf e)))
+    (λ e. judged-only (frameOf (sheetOf t)) js q (w .passes e))
