@@ -177,6 +177,7 @@ pub struct RefusalCode {
     pub field: usize,
 }
 
+// The three side by side.
 fn code(number: u32, line: usize, field: usize) -> RefusalCode
     ensures { λ r. ⌜ r ≡ codeAs number line field ⌝ }
 {
