@@ -19,12 +19,14 @@ use Rattle.margin.proofs.Signed.{minus-is}
 use Rattle.frame.specs.Sheet.{Sheet}
 use Rattle.frame.specs.Demands.{Outcome, planned, noPlan}
 use Rattle.measure.specs.declared.Measured.{Measured}
-use Rattle.planner.specs.Answer.{Answer, refused, found, answerOf}
-use Rattle.planner.specs.Answer.{partOf as levelsOf}
+use Rattle.store.specs.Store.{jobsMax}
+use Rattle.frame.specs.Run.{State}
+use Rattle.reply.specs.Answer.{Answer, refused, found, partAfter}
+use Rattle.planner.specs.Order.{answerOf}
 use Rattle.planner.specs.Demands.{planIn, Demands}
 use Rattle.planner.proofs.Ways.{replyTo, answer-demands}
-use Rattle.plan_text.specs.Text.{planText}
-use Rattle.report.specs.Report.{answerIn, reportOf, partOf}
+use Rattle.plan_text.specs.Text.{textLeast, planText}
+use Rattle.report.specs.Report.{tableWords, answerIn, reportOf, textAfter}
 use Rattle.report.proofs.Told.{Told, answer-told, told-best}
 use Rattle.begbija.specs.Begbija.{minus, countOrRefusal, textNumber, figuresOf, TextDemands}
 
@@ -65,73 +67,74 @@ same-refusal k l e = sym (size-minus k) ∙ ap natAbs e ∙ size-minus l
 
 -- ---- the call with the table inside
 
--- The levels of a plan, as a part of 64 bytes holds them.
-plan-levels : (t : List ℕ) (s : Sheet) (js : List ℕ) → Told t (found s (planned js)) → planIn s (levelsOf (found s (planned js)) (replicate 64 0)) ≡ js
-plan-levels t s js n = take-at js (drop s.jobs (replicate 64 0)) s.jobs (told-best t s (planned js) n .keeps .levels .size)
+-- The levels of a plan, as a part with a byte for every job holds them.
+plan-levels : (t : List ℕ) (s : Sheet) (i : ℕ) (a : State) (js : List ℕ) → Told t (found s i a (planned js)) →
+    planIn s (partAfter (found s i a (planned js)) (replicate jobsMax 0)) ≡ js
+plan-levels t s i a js n = rw (← n .2) (take-at js (drop i (replicate jobsMax 0)) i (told-best t s i a (planned js) n .keeps .levels .size))
 
 module _ (t text text' : List ℕ) (q : ℤ) where
   -- The planner's own refusal.
-  on-refused : (a : Answer) → Demands t 16384 64 (levelsOf a (replicate 64 0)) (replyTo a) → (k : ℕ) → 1 ≤ k → ¬ (k ≡ 9) → (replyTo a) .refusal ≡ k →
-      (4096 ≤ length text) ⊎ (k ≤ 8) → q ≡ minus k → TextDemands t (length text) text' q
+  on-refused : (a : Answer) → Demands t tableWords jobsMax (partAfter a (replicate jobsMax 0)) (replyTo a) → (k : ℕ) → 1 ≤ k → ¬ (k ≡ 9) → (replyTo a) .refusal ≡ k →
+      (textLeast ≤ length text) ⊎ (k ≤ 8) → q ≡ minus k → TextDemands t (length text) text' q
   on-refused a d k h o r w e =
       record {
         reply = replyTo a;
-        levels = levelsOf a (replicate 64 0);
+        levels = partAfter a (replicate jobsMax 0);
         demands = d;
         plan = λ n z. absurd (refusal-not k n h (sym e ∙ z));
-        refused = λ i l u z. r ∙ same-refusal k i (sym e ∙ z);
+        refused = λ j l u z. r ∙ same-refusal k j (sym e ∙ z);
         narrow = ((λ z. absurd (o (same-refusal k 9 (sym e ∙ z)))), (λ z. absurd (⊎-elim (λ v. omega (arith, z .0, v)) (λ v. ⊎-elim (λ y. omega (arith, r, y, v, h)) (λ y. omega (arith, r, y, v)) (z .1)) w)));
       }
 
   -- A part that is too short, in the place of a plan or of "no plan".
-  on-narrow : (s : Sheet) (o : Outcome) → Demands t 16384 64 (levelsOf (found s o) (replicate 64 0)) (replyTo (found s o)) → length text < 4096 →
-      ((replyTo (found s o)) .refusal ≡ 0) ⊎ ((replyTo (found s o)) .refusal ≡ 10) → q ≡ minus 9 → TextDemands t (length text) text' q
-  on-narrow s o d h u e =
+  on-narrow : (s : Sheet) (i : ℕ) (a : State) (o : Outcome) → Demands t tableWords jobsMax (partAfter (found s i a o) (replicate jobsMax 0)) (replyTo (found s i a o)) → length text < textLeast →
+      ((replyTo (found s i a o)) .refusal ≡ 0) ⊎ ((replyTo (found s i a o)) .refusal ≡ 10) → q ≡ minus 9 → TextDemands t (length text) text' q
+  on-narrow s i a o d h u e =
       record {
-        reply = replyTo (found s o);
-        levels = levelsOf (found s o) (replicate 64 0);
+        reply = replyTo (found s i a o);
+        levels = partAfter (found s i a o) (replicate jobsMax 0);
         demands = d;
         plan = λ n z. absurd (refusal-not 9 n (omega arith) (sym e ∙ z));
         refused = λ k l w z. absurd (w (sym (same-refusal 9 k (sym e ∙ z))));
         narrow = ((λ z. (h, u)), (λ z. e));
       }
 
-  zero-or-ten : (s : Sheet) (o : Outcome) → ((replyTo (found s o)) .refusal ≡ 0) ⊎ ((replyTo (found s o)) .refusal ≡ 10)
-  zero-or-ten s (planned js) = inl refl
-  zero-or-ten s noPlan = inr refl
+  zero-or-ten : (s : Sheet) (i : ℕ) (a : State) (o : Outcome) → ((replyTo (found s i a o)) .refusal ≡ 0) ⊎ ((replyTo (found s i a o)) .refusal ≡ 10)
+  zero-or-ten s i a (planned js) = inl refl
+  zero-or-ten s i a noPlan = inr refl
 
-  on-found : (s : Sheet) (o : Outcome) → Told t (found s o) → Demands t 16384 64 (levelsOf (found s o) (replicate 64 0)) (replyTo (found s o)) → 4096 ≤ length text →
-      q ≡ textNumber (reportOf t (length text) (found s o)) → text' ≡ partOf t (found s o) text → TextDemands t (length text) text' q
-  on-found s (planned js) n d h e w =
-      let u : text' ≡ planText t s js ++ drop (length (planText t s js)) text = rw (le-ltb (length text) 4096 h) at w in
-      let z : q ≡ pos (length (planText t s js)) = rw (le-ltb (length text) 4096 h) at e in
+  on-found : (s : Sheet) (i : ℕ) (a : State) (o : Outcome) → Told t (found s i a o) → Demands t tableWords jobsMax (partAfter (found s i a o) (replicate jobsMax 0)) (replyTo (found s i a o)) → textLeast ≤ length text →
+      q ≡ textNumber (reportOf t (length text) (found s i a o)) → text' ≡ textAfter t (found s i a o) text → TextDemands t (length text) text' q
+  on-found s i a (planned js) n d h e w =
+      let u : text' ≡ planText t s js ++ drop (length (planText t s js)) text = rw (le-ltb (length text) textLeast h) at w in
+      let z : q ≡ pos (length (planText t s js)) = rw (le-ltb (length text) textLeast h) at e in
       record {
-        reply = replyTo (found s (planned js));
-        levels = levelsOf (found s (planned js)) (replicate 64 0);
+        reply = replyTo (found s i a (planned js));
+        levels = partAfter (found s i a (planned js)) (replicate jobsMax 0);
         demands = d;
         plan = λ k y.
-            let i : length (planText t s js) ≡ k = ap natAbs (sym z ∙ y) in
-            (refl, rw (← n .1, plan-levels t s js n) (ap (take k) u ∙ take-at (planText t s js) (drop (length (planText t s js)) text) k i));
+            let l : length (planText t s js) ≡ k = ap natAbs (sym z ∙ y) in
+            (refl, rw (← n .1, plan-levels t s i a js n) (ap (take k) u ∙ take-at (planText t s js) (drop (length (planText t s js)) text) k l));
         refused = λ k l o y. absurd (refusal-not k (length (planText t s js)) l (sym y ∙ z));
         narrow = ((λ y. absurd (refusal-not 9 (length (planText t s js)) (omega arith) (sym y ∙ z))), (λ y. absurd (omega (arith, y .0, h))));
       }
-  on-found s noPlan n d h e w =
-      let z : q ≡ minus 10 = rw (le-ltb (length text) 4096 h) at e in
-      on-refused (found s noPlan) d 10 (omega arith) (λ y. omega (arith, y)) refl (inl h) z
+  on-found s i a noPlan n d h e w =
+      let z : q ≡ minus 10 = rw (le-ltb (length text) textLeast h) at e in
+      on-refused (found s i a noPlan) d 10 (omega arith) (λ y. omega (arith, y)) refl (inl h) z
 
-  by-answer : (a : Answer) → Told t a → Demands t 16384 64 (levelsOf a (replicate 64 0)) (replyTo a) →
-      q ≡ textNumber (reportOf t (length text) a) → text' ≡ partOf t a text → TextDemands t (length text) text' q
+  by-answer : (a : Answer) → Told t a → Demands t tableWords jobsMax (partAfter a (replicate jobsMax 0)) (replyTo a) →
+      q ≡ textNumber (reportOf t (length text) a) → text' ≡ textAfter t a text → TextDemands t (length text) text' q
   by-answer (refused number line field) n d e w =
       let z : q ≡ minus number = rw (ne-eqb number 0 (λ y. omega (arith, n, y))) at e in
       on-refused (refused number line field) d number (n .0) (λ y. omega (arith, n, y)) refl (inr (omega (arith, n))) z
-  by-answer (found s o) n d e w =
-      elim (decLt (length text) 4096) [
+  by-answer (found s i a o) n d e w =
+      elim (decLt (length text) textLeast) [
         | yes h ↦
-            let z : q ≡ minus 9 = rw (lt-ltb (length text) 4096 h) at e in
-            on-narrow s o d h (zero-or-ten s o) z
-        | no h ↦ on-found s o n d (omega arith) e w
+            let z : q ≡ minus 9 = rw (lt-ltb (length text) textLeast h) at e in
+            on-narrow s i a o d h (zero-or-ten s i a o) z
+        | no h ↦ on-found s i a o n d (omega arith) e w
       ]
 
-  pub text-demands : q ≡ textNumber (reportOf t (length text) (answerIn t)) → text' ≡ partOf t (answerIn t) text → TextDemands t (length text) text' q
+  pub text-demands : q ≡ textNumber (reportOf t (length text) (answerIn t)) → text' ≡ textAfter t (answerIn t) text → TextDemands t (length text) text' q
   unfolding answerIn
-  text-demands e w = by-answer (answerOf t 16384 64) (answer-told t 16384) (answer-demands t (replicate 16384 0) (replicate 64 0)) e w
+  text-demands e w = by-answer (answerOf t tableWords jobsMax) (answer-told t tableWords) (answer-demands t (replicate tableWords 0) (replicate jobsMax 0)) e w

@@ -9,15 +9,15 @@ use Prim.Native.Nat.{ℕ, _≤_, _<_}
 use lib.Dec.{eqb}
 use lib.IntN.{ℤ, pos, negℤ, natAbs}
 use lib.ListN.{getD, take}
-use Rattle.sheet.specs.Reading.{sheetOf}
-use Rattle.sheet.specs.Frame.{frameOf}
+use Rattle.store.specs.Store.{jobsMax}
+use Rattle.sheet.specs.Reading.{sheetIn}
 use Rattle.measure.specs.declared.Measured.{Measured}
-use Rattle.planner.specs.declared.Reply.{Reply}
+use Rattle.reply.specs.declared.Reply.{Reply}
 use Rattle.planner.specs.declared.Words.{Words}
 use Rattle.planner.specs.Demands.{planIn, Demands}
-use Rattle.plan_text.specs.Text.{planText}
+use Rattle.plan_text.specs.Text.{textLeast, planText}
 use Rattle.report.specs.declared.Report.{Report}
-use Rattle.report.specs.Report.{textLeast}
+use Rattle.report.specs.Report.{tableWords}
 
 -- "minus the refusal"; 0 where there is none.
 abbrev pub minus : ℕ → ℤ
@@ -65,12 +65,12 @@ measuredIn w =
     }
 
 -- "A plan or "no plan" from the logger's call or `plan` is the planner's with the table used there": the demands in words hold of
--- a reply and of levels in a part of 64 bytes, and the call's number and text say these, but where the part for the text is
+-- a reply and of levels in a part with a byte for every job, and the call's number and text say these, but where the part for the text is
 -- "under 4,096", which is told in the place of a plan or of "no plan".
 pub record TextDemands (t : List ℕ) (room : ℕ) (text : List ℕ) (q : ℤ) : Type 0 where
   pub reply : Reply
   pub levels : List ℕ
-  pub demands : Demands t 16384 64 levels reply
-  pub plan : (n : ℕ) → q ≡ pos n → let s = frameOf (sheetOf t) in (reply .refusal ≡ 0) × (take n text ≡ planText t s (planIn s levels))
+  pub demands : Demands t tableWords jobsMax levels reply
+  pub plan : (n : ℕ) → q ≡ pos n → let s = sheetIn t in (reply .refusal ≡ 0) × (take n text ≡ planText t s (planIn s levels))
   pub refused : (k : ℕ) → 1 ≤ k → ¬ (k ≡ 9) → q ≡ minus k → reply .refusal ≡ k
   pub narrow : (q ≡ minus 9) ↔ ((room < textLeast) × ((reply .refusal ≡ 0) ⊎ (reply .refusal ≡ 10)))

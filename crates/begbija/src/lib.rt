@@ -4,13 +4,14 @@ ghost use Prim.Native.Nat.{_<_, _^_};
 ghost use lib.ListN.{length};
 ghost use Rattle.measure.specs.Measure.{measureOf};
 ghost use Rattle.measure.specs.Meaning.{Meaning};
-ghost use Rattle.planner.specs.Answer.{answerOf, Answers};
+ghost use Rattle.planner.specs.Order.{answerOf};
+ghost use Rattle.reply.specs.Answer.{Answers};
 ghost use Rattle.planner.specs.Demands.{Demands};
 ghost use Rattle.planner.specs.Need.{wordsOf};
-ghost use Rattle.report.specs.Report.{answerIn, reportOf, partOf};
+ghost use Rattle.report.specs.Report.{answerIn, reportOf, textAfter};
 ghost use Rattle.begbija.specs.Begbija.{minus, countOrRefusal, textNumber, needNumber, replyIn, figuresOf, measuredIn, TextDemands};
 use measure::Measured;
-use planner::Reply;
+use reply::Reply;
 
 // The signed number of every call.
 fn count_or_refusal(refusal: u32, count: usize) -> i64
@@ -42,7 +43,7 @@ fn put_reply(r: Reply, reply: &mut [u64; 7])
 #[no_mangle]
 pub extern "C" fn begbija_plan_text(sheet: &[u8], text: &mut [u8]) -> i64
     ensures { λ q. ⌜ q ≡ textNumber (reportOf (now (sheet .entry)) (length (now (text .entry))) (answerIn (now (sheet .entry)))) ⌝ }
-    ensures { λ q. ⌜ now (text .exit) ≡ partOf (now (sheet .entry)) (answerIn (now (sheet .entry))) (now (text .entry)) ⌝ }
+    ensures { λ q. ⌜ now (text .exit) ≡ textAfter (now (sheet .entry)) (answerIn (now (sheet .entry))) (now (text .entry)) ⌝ }
     ensures { λ q. ⌜ TextDemands (now (sheet .entry)) (length (now (text .entry))) (now (text .exit)) q ⌝ }
 {
     let r = report::write_plan(sheet, text);

@@ -1,4 +1,4 @@
-// Runs the measuring call, the job names and the planner on the cases of standard input, and prints a line for each case.
+// Spans the measuring call, the job names and the planner on the cases of standard input, and prints a line for each case.
 //
 // A case is five parts, each ended by a form feed: a note, a sheet, a list of levels, a byte each, and how many words and bytes
 // to lend to the planner. Its line has the note; of the measuring call the refusal's number, line and field and the three margins;
@@ -8,9 +8,9 @@ ghost use Prim.Native.Nat.{_≤_, _<_};
 ghost use lib.ListN.{length};
 use libc::STDOUT_FILENO;
 use measure::Measured;
-use planner::Reply;
+use numbers::Field;
+use reply::Reply;
 use std::num;
-use text::Field;
 
 // The memory of which the first words and bytes are lent to the planner.
 type Table = [u32; 16384];
@@ -108,7 +108,7 @@ fn print_plan(s: &[u8], words: usize, bytes: usize)
 fn number_in(s: &[u8], most: usize) -> usize
     ensures { λ r. ⌜ r ≤ most ⌝ }
 {
-    let f = text::read_number(s, 0, s.len());
+    let f = numbers::read_number(s, 0, s.len());
     let Field::Number(n, _) = f else {
         return 0;
     };
@@ -129,7 +129,7 @@ fn print_case(note: &[u8], s: &[u8], levels: &[u8], words: &[u8], bytes: &[u8]) 
     io::write_all(STDOUT_FILENO, b"\n");
 }
 
-// Runs the case that starts at `at`, and hands back where the next one starts: beyond the input where none does.
+// Spans the case that starts at `at`, and hands back where the next one starts: beyond the input where none does.
 fn run_case(s: &[u8], at: usize) -> usize
     requires { ⌜ at ≤ length (now s) ⌝ }
     ensures { λ r. ⌜ at < r ⌝ }

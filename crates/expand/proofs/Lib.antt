@@ -1,3 +1,1 @@
-pub mod Parts
 pub mod Taking
-pub mod Columns

@@ -1,4 +1,5 @@
--- A table that is filled from a place on: from its end, one part more, and the whole table.
+-- A table that is filled from a place on: nothing at its end, one part more where it was filled behind that, and from place 0 the whole
+-- table, word by word.
 -- Assumes nothing.
 use mathlib.Core.Path.{_≡_, refl, sym, ap, _∙_}
 use mathlib.Core.List.{List, _++_}

@@ -1,12 +1,10 @@
--- A job's move: from every cell the same, in energy and in temperature, and so the least time of a cell by one level more.
+-- A job from a cell: its move is the same from every cell in energy, and what follows the same for every level left, so that the least
+-- time of a cell by one level more is the lesser of the least so far and the move's time with what follows.
 -- Assumes nothing.
 use mathlib.Core.Path.{_≡_, refl, sym, ap, ap₂, _∙_}
 use Prim.Native.Nat.{ℕ, suc, _+_, _*_, _-_, _≤_, _<_, min}
-use native.Mathlib.Nat.{mul-add-div-right, mul-le-mul-right}
 use native.Mathlib.Decide.{decLt, decLe}
 use native.Mathlib.Omega.{arith}
-use lib.Dec.{ltb}
-use Rattle.rows.proofs.Within.{cond-cases}
 use borrow.Author.Tests.{le-leb, lt-leb, lt-ltb, le-ltb}
 use Rattle.thermal.specs.Rounding.{ceilDiv}
 use Rattle.frame.specs.Sheet.{Sheet, Ranges}
@@ -14,13 +12,17 @@ use Rattle.frame.specs.Run.{State, fresh, change, job, step}
 use Rattle.frame.specs.Demands.{infeasible}
 use Rattle.frame.specs.Plan.{leastOf, next, via, least}
 use Rattle.frame.specs.Table.{energyCells, temperatureCells, cell, word}
-use Rattle.frame.proofs.Slack.{near-step}
 use Rattle.frame.proofs.Table.{temperature-cell, least-word}
 use Rattle.frame.proofs.Words.{least-bounded, least-small}
+use Rattle.store.specs.Store.{jobsMax}
+use Rattle.run.proofs.Small.{jobMost}
 use Rattle.table.proofs.Lookup.{least-more, least-none, next-cell, cost-energy, cost-temperature, cost-within}
 use Rattle.table.proofs.Cells.{at-cell}
-use Rattle.runs.specs.Runs.{far, near, settled}
-use Rattle.fill.specs.Layer.{moved, warmed, nextCell, follows, upTo}
+use Rattle.word.specs.Word.{far, near, settled}
+use Rattle.moves.specs.Moves.{moved}
+use Rattle.moves.proofs.Reach.{ceil-add}
+use Rattle.follow.specs.Follow.{warmed, nextCell, follows}
+use Rattle.fill.specs.Layer.{upTo}
 
 -- ---- the move from any cell
 
@@ -40,33 +42,6 @@ module _ (s : Sheet) (i p j e t : ℕ) where
   pub step-peak : (step s (fresh i p e t) j) .peak ≡ warmed s i j t
   unfolding step change job
   step-peak = omega arith
-
--- A number of whole steps more.
-pub ceil-add : (a e g : ℕ) → 0 < g → ceilDiv (a * g + e) g ≡ a + ceilDiv e g
-unfolding ceilDiv
-ceil-add a e g h =
-    let z : a * g + e + (g - 1) ≡ a * g + (e + (g - 1)) = omega arith in
-    rw z (mul-add-div-right h a (e + (g - 1)))
-
--- ---- the temperature cells
-
-module _ (s : Sheet) (ok : Ranges s) (i j : ℕ) where
-  -- A warmer start ends no cooler.
-  warmed-mono : (t u : ℕ) → t ≤ u → warmed s i j t ≤ warmed s i j u
-  warmed-mono t u h = omega (arith, near-step s ok 0 0 (fresh i j 0 u) (fresh i j 0 t) j (omega arith) .temperature)
-
-  -- So a cell from which the job ends above C is followed by such cells alone.
-  pub cell-stays : (b c : ℕ) → b ≤ c → temperatureCells s ≤ nextCell s i j b → temperatureCells s ≤ nextCell s i j c
-  unfolding nextCell
-  cell-stays b c h l =
-      let t = warmed s i j (b * s.temperatureStep) in
-      let u = warmed s i j (c * s.temperatureStep) in
-      elim (decLe t s.temperatureLimit) [
-        | yes g ↦ absurd (omega (arith, temperature-cell s ok t g, rw (le-leb t s.temperatureLimit g) at l))
-        | no g ↦
-            let m : s.temperatureLimit < u = omega (arith, warmed-mono _ _ (mul-le-mul-right s.temperatureStep h)) in
-            rw (lt-leb u s.temperatureLimit m) (omega arith)
-      ]
 
 -- ---- words
 
@@ -170,10 +145,14 @@ up-most s i p k a b = omega arith
 
 pub follows-most : (s : Sheet) (i j a b : ℕ) → follows s i j a b ≤ far
 unfolding follows
-follows-most s i j a b = cond-cases (λ (x : ℕ). x ≤ far) (ltb (nextCell s i j b) (temperatureCells s)) _ _ (λ e. omega arith) (λ e. omega arith)
+follows-most s i j a b =
+    elim (decLt (nextCell s i j b) (temperatureCells s)) [
+      | yes l ↦ rw (lt-ltb (nextCell s i j b) (temperatureCells s) l) (omega arith)
+      | no l ↦ rw (le-ltb (nextCell s i j b) (temperatureCells s) (omega arith)) (omega arith)
+    ]
 
 -- A time below `far` is a word, and `far` stands for 4,294,967,295.
-settled-near : (w n : ℕ) → w ≤ infeasible → (w < infeasible → w ≤ n * 20000000) → n ≤ 64 → settled (near w) ≡ w
+settled-near : (w n : ℕ) → w ≤ infeasible → (w < infeasible → w ≤ n * jobMost) → n ≤ jobsMax → settled (near w) ≡ w
 settled-near w n h f m =
     elim (decLt w infeasible) [
       | yes l ↦ let z : near w ≡ w = omega (arith, f l) in rw (z, lt-ltb w far (omega (arith, f l))) refl
@@ -190,14 +169,3 @@ up-word s ok i p a b h =
     let n : s.jobs - i ≡ suc (s.jobs - suc i) = omega arith in
     let w = settled-near (least s (s.jobs - i) (cell s i p a b)) (s.jobs - i) (least-bounded s ok (s.jobs - i) _) (least-small s ok (s.jobs - i) _) (omega (arith, ok .jobs .high)) in
     ap (λ (x : ℕ). settled (near x)) (sym (least-next s (s.jobs - i) (s.jobs - suc i) _ n)) ∙ w
-
--- ---- a move's figures are small
-
-module _ (s : Sheet) (ok : Ranges s) (i p j : ℕ) where
-  pub moved-time : (moved s i p j) .time ≤ 20000000
-  unfolding step change job
-  moved-time = omega (arith, ok .changeTime p j, ok .jobTime i j)
-
-  pub moved-energy : (moved s i p j) .energy ≤ 20000000
-  unfolding step change job
-  moved-energy = omega (arith, ok .changeEnergy p j, ok .jobEnergy i j)

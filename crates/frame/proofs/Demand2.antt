@@ -9,7 +9,7 @@ use borrow.Author.Tests.{le-leb, lt-leb}
 use Rattle.frame.specs.Sheet.{Sheet}
 use Rattle.frame.specs.Run.{State, exact, raised}
 use Rattle.frame.specs.Plan.{least, choice, plan, outcome}
-use Rattle.frame.specs.Demands.{LexLe, Keeps, endTime, Best, Outcome, planned, noPlan, Demand2, infeasible}
+use Rattle.frame.specs.Demands.{LexLe, Keeps, endTime, Best, Outcome, planned, noPlan, OutcomeDemand2, infeasible}
 use Rattle.frame.proofs.Run.{same-time, raised-time, run-later, meets-by, meets-time}
 use Rattle.frame.proofs.Plan.{keeps-least, choice-keeps, choice-first}
 
@@ -29,7 +29,7 @@ best-unique s n a js ks p q =
     let e : endTime s a js ≡ endTime s a ks = omega (arith, p .least ks (q .keeps), q .least js (p .keeps)) in
     lex-antisymm js ks (p .first ks (q .keeps) (sym e)) (q .first js (p .keeps) e)
 
-pub demand2-unique : (s : Sheet) (n : ℕ) (a : State) (o p : Outcome) → Demand2 s n a o → Demand2 s n a p → o ≡ p
+pub demand2-unique : (s : Sheet) (n : ℕ) (a : State) (o p : Outcome) → OutcomeDemand2 s n a o → OutcomeDemand2 s n a p → o ≡ p
 demand2-unique s n a (planned js) (planned ks) h k = ap planned (best-unique s n a js ks h k)
 demand2-unique s n a (planned js) noPlan h k = absurd (k js (h .keeps))
 demand2-unique s n a noPlan (planned ks) h k = absurd (h ks (k .keeps))
@@ -80,7 +80,7 @@ module _ (s : Sheet) (n : ℕ) (a : State) where
         }
 
   -- Demand 2, from any state that is within the temperature limit and the deadline.
-  pub demand2 : s.deadline < infeasible → a.peak ≤ s.temperatureLimit → a.time ≤ s.deadline → Demand2 s n a (outcome s n a)
+  pub demand2 : s.deadline < infeasible → a.peak ≤ s.temperatureLimit → a.time ≤ s.deadline → OutcomeDemand2 s n a (outcome s n a)
   unfolding outcome
   demand2 small cool soon =
       elim (decLe (a.time + least s n a) s.deadline) [

@@ -11,7 +11,7 @@ use Rattle.frame.specs.Sheet.{Sheet, Ranges}
 use Rattle.frame.specs.Run.{State, start}
 use Rattle.frame.specs.Limits.{Limits, limits, energySlack, temperatureSlack, tightened}
 use Rattle.frame.specs.Plan.{frameOutcome}
-use Rattle.frame.specs.Demands.{Keeps, Outcome, planned, noPlan, Demand2, Tight, Demand3}
+use Rattle.frame.specs.Demands.{Keeps, Outcome, planned, noPlan, OutcomeDemand2, Tight, OutcomeDemand3}
 use Rattle.frame.proofs.Limits.{at-most-sub, Tighter}
 use Rattle.frame.proofs.Slack.{rounded-sound, tighter-keeps}
 use Rattle.frame.proofs.Demand2.{demand2}
@@ -49,7 +49,7 @@ module _ (s : Sheet) (ok : Ranges s) where
 
   -- Demand 3 from demand 2 in words, where the lists that meet the tightened limits keep the limits when rounded.
   pub demand3 : (k : Limits) (n : ℕ) (a : State) → ((xs : List ℕ) → Tight s k n a xs → Keeps s s.deadline n a xs) →
-      (o : Outcome) → Demand2 s n a o → Demand3 s k n a o
+      (o : Outcome) → OutcomeDemand2 s n a o → OutcomeDemand3 s k n a o
   demand3 k n a f (planned js) b =
       record {
         levels = b .keeps .levels;
@@ -60,8 +60,8 @@ module _ (s : Sheet) (ok : Ranges s) where
 
   -- ---- the sheet's own frame
 
-  pub frame-demand2 : Demand2 s s.jobs (start s) (frameOutcome s)
+  pub frame-demand2 : OutcomeDemand2 s s.jobs (start s) (frameOutcome s)
   frame-demand2 = demand2 s s.jobs (start s) (omega (arith, ok .deadline)) (omega arith) (omega arith)
 
-  pub frame-demand3 : Demand3 s (tightened s) s.jobs (start s) (frameOutcome s)
+  pub frame-demand3 : OutcomeDemand3 s (tightened s) s.jobs (start s) (frameOutcome s)
   frame-demand3 = demand3 (tightened s) s.jobs (start s) tight-keeps (frameOutcome s) frame-demand2

@@ -12,7 +12,7 @@ use Rattle.frame.specs.Plan.{leastOf, firstWithin, next, cost, via, leas
 use Rattle.frame.specs.Demands.{infeasible}
 use Rattle.frame.proofs.Plan.{least-of-le, first-within, cost-le, cost-lt}
 
--- The first small enough of k numbers hangs on those k alone.
+-- The first small enough of k numbers depends on those k alone.
 pub first-same : (k : ℕ) (f g : ℕ → ℕ) (x : ℕ) → ((j : ℕ) → j < k → f j ≡ g j) → (leastOf k f ≡ leastOf k g) × (firstWithin k f x ≡ firstWithin k g x)
 unfolding leastOf firstWithin
 first-same zero f g x h = (refl, refl)

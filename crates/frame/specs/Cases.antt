@@ -33,8 +33,8 @@ abbrev pub entry : List (List ℕ) → ℕ → ℕ → ℕ
 entry rows i j = getD (getD rows i []) j 0
 
 -- A sheet by its lines: the figures of the H line, of the L lines, of the S lines and of the B lines.
-abbrev pub sheetOf : List ℕ → List ℕ → List (List ℕ) → List (List ℕ) → Sheet
-sheetOf H L S B =
+abbrev pub sheetFrom : List ℕ → List ℕ → List (List ℕ) → List (List ℕ) → Sheet
+sheetFrom H L S B =
     record {
       jobs = getD H 0 0;
       levels = getD H 1 0;
@@ -66,12 +66,12 @@ printedB = (30 ∷ 20 ∷ 32768 ∷ []) ∷ (18 ∷ 45 ∷ 32768 ∷ []) ∷ (28
 
 -- The printed sheet, with D, W, C, g and h as named.
 abbrev pub sheet : ℕ → ℕ → ℕ → ℕ → ℕ → Sheet
-sheet D W C g h = sheetOf (2 ∷ 2 ∷ 0 ∷ D ∷ W ∷ C ∷ 1000 ∷ 2000 ∷ g ∷ h ∷ []) printedL printedS printedB
+sheet D W C g h = sheetFrom (2 ∷ 2 ∷ 0 ∷ D ∷ W ∷ C ∷ 1000 ∷ 2000 ∷ g ∷ h ∷ []) printedL printedS printedB
 
 -- "A sheet of its own with one job, two equal levels, free changes, that has a plan".
 abbrev pub equalLevels : Sheet
 equalLevels =
-    sheetOf
+    sheetFrom
     (1 ∷ 2 ∷ 0 ∷ 50 ∷ 100 ∷ 2500 ∷ 1000 ∷ 2000 ∷ 10 ∷ 100 ∷ [])
     (10000 ∷ 10000 ∷ [])
     ((0 ∷ 0 ∷ []) ∷ (0 ∷ 0 ∷ []) ∷ (0 ∷ 0 ∷ []) ∷ (0 ∷ 0 ∷ []) ∷ [])
@@ -80,7 +80,7 @@ equalLevels =
 -- A sheet of our own whose one job cools: its level has no power, and it starts at 2,000.
 abbrev pub cooling : Sheet
 cooling =
-    sheetOf
+    sheetFrom
     (1 ∷ 1 ∷ 0 ∷ 50 ∷ 100 ∷ 2500 ∷ 2000 ∷ 2000 ∷ 10 ∷ 100 ∷ [])
     (0 ∷ [])
     ((0 ∷ 0 ∷ []) ∷ [])
@@ -90,7 +90,7 @@ cooling =
 -- another; the first job may change level.
 abbrev pub unequal : ℕ → ℕ → ℕ → Sheet
 unequal D W C =
-    sheetOf
+    sheetFrom
     (3 ∷ 3 ∷ 1 ∷ D ∷ W ∷ C ∷ 1010 ∷ 2000 ∷ 10 ∷ 25 ∷ [])
     (7000 ∷ 13000 ∷ 16000 ∷ [])
     ((0 ∷ 0 ∷ []) ∷ (5 ∷ 11 ∷ []) ∷ (2 ∷ 13 ∷ []) ∷ (3 ∷ 7 ∷ []) ∷ (0 ∷ 0 ∷ []) ∷ (6 ∷ 17 ∷ []) ∷ (4 ∷ 19 ∷ []) ∷ (8 ∷ 23 ∷ []) ∷ (0 ∷ 0 ∷ []) ∷ [])
@@ -167,7 +167,7 @@ cases T s =
     ∷ plans equalLevels (0 ∷ []) 30 20 1500
     -- not starred: "Its need is 1,144 words", and "need 4,194,304" for m 64, l 8, W 63, g 1, C 127, h 1
     ∷ gives (need (sheet 50 100 2500 10 100)) 1144
-    ∷ gives (need (sheetOf (64 ∷ 8 ∷ 0 ∷ 0 ∷ 63 ∷ 127 ∷ 0 ∷ 0 ∷ 1 ∷ 1 ∷ []) [] [] [])) 4194304
+    ∷ gives (need (sheetFrom (64 ∷ 8 ∷ 0 ∷ 0 ∷ 63 ∷ 127 ∷ 0 ∷ 0 ∷ 1 ∷ 1 ∷ []) [] [] [])) 4194304
     -- by hand: A is 11 and B 26, so the place is ((1 × 2 + 1) × 11 + 3) × 26 + 5
     ∷ gives (place (sheet 50 100 2500 10 100) 1 1 3 5) 941
     -- by hand: the start state's word is the plan's time; with energy 100 spent no level of send stays within W

@@ -49,9 +49,9 @@ pub data Outcome : Type 0 where
   noPlan : Outcome
 
 -- Demand 2: the plan is the best list, and "no plan" is "answered if there is no such list, and only then".
-abbrev pub Demand2 : Sheet → ℕ → State → Outcome → Type 0
-Demand2 s n a (planned js) = Best s n a js
-Demand2 s n a noPlan = (js : List ℕ) → ¬ Keeps s s.deadline n a js
+abbrev pub OutcomeDemand2 : Sheet → ℕ → State → Outcome → Type 0
+OutcomeDemand2 s n a (planned js) = Best s n a js
+OutcomeDemand2 s n a noPlan = (js : List ℕ) → ¬ Keeps s s.deadline n a js
 
 -- A list for the next n jobs that stays within W and C by the rounded rule, whatever time it takes: its own end is the
 -- deadline.
@@ -84,9 +84,9 @@ pub record Sound (s : Sheet) (k : Limits) (n : ℕ) (a : State) (js : List ℕ) 
 
 -- Demand 3 on the outcome, with k the tightened limits: `tightened s` for the sheet's own frame, all its jobs from its start.
 -- "Where the answer is "no plan", no list meets these tightened limits."
-abbrev pub Demand3 : Sheet → Limits → ℕ → State → Outcome → Type 0
-Demand3 s k n a (planned js) = Sound s k n a js
-Demand3 s k n a noPlan = (xs : List ℕ) → ¬ Tight s k n a xs
+abbrev pub OutcomeDemand3 : Sheet → Limits → ℕ → State → Outcome → Type 0
+OutcomeDemand3 s k n a (planned js) = Sound s k n a js
+OutcomeDemand3 s k n a noPlan = (xs : List ℕ) → ¬ Tight s k n a xs
 
 -- What a plan's reply says: "total time, energy and final temperature of the run without grains".
 pub record Figures : Type 0 where

@@ -9,68 +9,62 @@ use lib.Dec.{ltb}
 use lib.ListN.{length, getD, set, replicate, length-set, length-replicate, getD-replicate, List·getD-eq-default}
 use lib.Seq.{getD-set-same, getD-set-other}
 use borrow.Author.Tests.{ltb-false, eq-eqb, ne-eqb}
+use Rattle.store.specs.Store.{levelsMax, worksMax, powers, changeTimes, changeEnergies, jobTimes, jobEnergies, decays, storeSize}
 use Rattle.text.specs.Text.{until, beyond, ahead}
 use Rattle.thermal.specs.Thermal.{steadyState}
-use Rattle.rows.specs.Row.{Row, rowOf}
-use Rattle.rows.specs.declared.Fault.{Fault}
-use Rattle.rows.specs.declared.Fault.the-variants.{Sound, Shape, Form, Range}
-use Rattle.rows.proofs.Within.{faulty, malformed, shapeless, row-held}
-pub use Rattle.rows.proofs.Within.{cond-cases}
-use Rattle.lines.specs.declared.Kind.{Kind}
-use Rattle.lines.specs.declared.Kind.the-variants.{Level, Change, Work}
-use Rattle.lines.proofs.Lines.{put-length}
-use Rattle.lines.specs.Lines.{after, steadyRow, levelRow, changeRow, workRow, rowFor, put, placesOf, Found, blockFrom}
-
--- What holds after a line, by the line's fault.
-pub after-cases : {X : Type 0} (P : X → Type 0) (f : Fault) (stop go : X) → ((f ≡ Sound → ⊥) → P stop) → (f ≡ Sound → P go) → P (after f stop go)
-after-cases P Sound stop go a b = b refl
-after-cases P Shape stop go a b = a shapeless
-after-cases P (Form k) stop go a b = a (malformed k)
-after-cases P (Range k) stop go a b = a (faulty k)
+use Rattle.fields.specs.Fields.{Fields, fieldsOf}
+use Rattle.fields.specs.declared.Fault.the-variants.{Sound}
+use Rattle.fields.proofs.Within.{faulty, shapeless, fields-held, cond-cases}
+use Rattle.fields.proofs.After.{after-cases}
+use Rattle.line_kinds.specs.declared.Kind.{Kind}
+use Rattle.line_kinds.specs.declared.Kind.the-variants.{Level, Change, Work}
+use Rattle.line_kinds.specs.Figures.{powerMax, steadyStateMax, costMax, decayMax, levelHi, changeHi, workLo, workHi, steadyFields, levelFields, changeFields, workFields, fieldsFor, put, placesOf}
+use Rattle.line_kinds.proofs.Figures.{put-length}
+use Rattle.lines.specs.Lines.{Found, blockFrom}
 
 -- ---- the figures of a sound line
 
 -- "L, power P (0 to 100,000)", with its steady-state temperature.
 record Powered (resistance : ℕ) (vs : List ℕ) : Type 0 where
-  power : getD vs 0 0 ≤ 100000
-  steady : steadyState (getD vs 0 0) resistance ≤ 20000
+  power : getD vs 0 0 ≤ powerMax
+  steady : steadyState (getD vs 0 0) resistance ≤ steadyStateMax
 
-level-held : (resistance : ℕ) (line : List ℕ) → (levelRow resistance line) .fault ≡ Sound → Powered resistance ((levelRow resistance line) .values)
-unfolding levelRow steadyRow
+level-held : (resistance : ℕ) (line : List ℕ) → (levelFields resistance line) .fault ≡ Sound → Powered resistance ((levelFields resistance line) .values)
+unfolding levelFields steadyFields
 level-held resistance line =
-    let row = rowOf 76 1 (replicate 10 0) (100000 ∷ replicate 9 0) line in
-    let P : Row → Type 0 = λ r. r .fault ≡ Sound → Powered resistance (r .values) in
-    after-cases P (row .fault) _ _ (λ n e. absurd (n e))
-    (λ s. cond-cases P (ltb 20000 (steadyState (getD (row .values) 0 0) resistance)) _ _ (λ t e. absurd (faulty 2 e))
+    let fields = fieldsOf 76 1 (replicate 10 0) levelHi line in
+    let P : Fields → Type 0 = λ r. r .fault ≡ Sound → Powered resistance (r .values) in
+    after-cases P (fields .fault) _ _ (λ n e. absurd (n e))
+    (λ s. cond-cases P (ltb steadyStateMax (steadyState (getD (fields .values) 0 0) resistance)) _ _ (λ t e. absurd (faulty 2 e))
     (λ t e.
-    let h = row-held 76 1 (replicate 10 0) (100000 ∷ replicate 9 0) line (omega arith) s in
+    let h = fields-held 76 1 (replicate 10 0) levelHi line (omega arith) s in
     record { power = h .high 0 (omega arith) (omega arith); steady = ltb-false _ _ t }))
 
 -- "S, time, energy of a change", of level p left and level j entered.
 record Changed (p j : ℕ) (vs : List ℕ) : Type 0 where
-  time : getD vs 0 0 ≤ 10000000
-  energy : getD vs 1 0 ≤ 10000000
+  time : getD vs 0 0 ≤ costMax
+  energy : getD vs 1 0 ≤ costMax
   stay : j ≡ p → (getD vs 0 0 ≡ 0) × (getD vs 1 0 ≡ 0)
 
-change-held : (p j : ℕ) (line : List ℕ) → (changeRow p j line) .fault ≡ Sound → Changed p j ((changeRow p j line) .values)
-unfolding changeRow
+change-held : (p j : ℕ) (line : List ℕ) → (changeFields p j line) .fault ≡ Sound → Changed p j ((changeFields p j line) .values)
+unfolding changeFields
 change-held p j line e =
     elim (ℕ-discrete j p) [
       | yes d ↦ rw (eq-eqb j p d) (self (rw (eq-eqb j p d) at e))
       | no d ↦ rw (ne-eqb j p d) (apart d (rw (ne-eqb j p d) at e))
     ]
   where
-    self : (rowOf 83 2 (replicate 10 0) (replicate 10 0) line) .fault ≡ Sound → Changed p j ((rowOf 83 2 (replicate 10 0) (replicate 10 0) line) .values)
+    self : (fieldsOf 83 2 (replicate 10 0) (replicate 10 0) line) .fault ≡ Sound → Changed p j ((fieldsOf 83 2 (replicate 10 0) (replicate 10 0) line) .values)
     self s =
-        let h = row-held 83 2 (replicate 10 0) (replicate 10 0) line (omega arith) s in
+        let h = fields-held 83 2 (replicate 10 0) (replicate 10 0) line (omega arith) s in
         let a = h .high 0 (omega arith) (omega arith) in
         let b = h .high 1 (omega arith) (omega arith) in
         record { time = omega arith; energy = omega arith; stay = λ q. (omega arith, omega arith) }
 
-    apart : (j ≡ p → ⊥) → (rowOf 83 2 (replicate 10 0) (10000000 ∷ 10000000 ∷ replicate 8 0) line) .fault ≡ Sound →
-        Changed p j ((rowOf 83 2 (replicate 10 0) (10000000 ∷ 10000000 ∷ replicate 8 0) line) .values)
+    apart : (j ≡ p → ⊥) → (fieldsOf 83 2 (replicate 10 0) changeHi line) .fault ≡ Sound →
+        Changed p j ((fieldsOf 83 2 (replicate 10 0) changeHi line) .values)
     apart n s =
-        let h = row-held 83 2 (replicate 10 0) (10000000 ∷ 10000000 ∷ replicate 8 0) line (omega arith) s in
+        let h = fields-held 83 2 (replicate 10 0) changeHi line (omega arith) s in
         record {
           time = h .high 0 (omega arith) (omega arith);
           energy = h .high 1 (omega arith) (omega arith);
@@ -80,14 +74,14 @@ change-held p j line e =
 -- "B, time (1 to 10,000,000), energy (0 to 10,000,000), decay (0 to 65,536)".
 record Worked (vs : List ℕ) : Type 0 where
   least : 1 ≤ getD vs 0 0
-  time : getD vs 0 0 ≤ 10000000
-  energy : getD vs 1 0 ≤ 10000000
-  decay : getD vs 2 0 ≤ 65536
+  time : getD vs 0 0 ≤ costMax
+  energy : getD vs 1 0 ≤ costMax
+  decay : getD vs 2 0 ≤ decayMax
 
-work-held : (line : List ℕ) → (workRow line) .fault ≡ Sound → Worked ((workRow line) .values)
-unfolding workRow
+work-held : (line : List ℕ) → (workFields line) .fault ≡ Sound → Worked ((workFields line) .values)
+unfolding workFields
 work-held line e =
-    let h = row-held 66 3 (1 ∷ replicate 9 0) (10000000 ∷ 10000000 ∷ 65536 ∷ replicate 7 0) line (omega arith) e in
+    let h = fields-held 66 3 workLo workHi line (omega arith) e in
     record {
       least = h .low 0 (omega arith) (omega arith);
       time = h .high 0 (omega arith) (omega arith);
@@ -98,12 +92,12 @@ work-held line e =
 -- ---- a store of which every figure is as its place asks
 
 pub record Kept (Q : ℕ → ℕ → Type 0) (st : List ℕ) : Type 0 where
-  pub long : length st ≡ 1672
+  pub long : length st ≡ storeSize
   pub each : (k : ℕ) → Q k (getD st k 0)
 
 module _ (Q : ℕ → ℕ → Type 0) where
   -- Zeros, where each place takes 0.
-  pub kept-zeros : ((k : ℕ) → Q k 0) → (n : ℕ) → n ≡ 1672 → Kept Q (replicate n 0)
+  pub kept-zeros : ((k : ℕ) → Q k 0) → (n : ℕ) → n ≡ storeSize → Kept Q (replicate n 0)
   kept-zeros q n e =
       record {
         long = length-replicate {A = ℕ} n 0 ∙ e;
@@ -116,7 +110,7 @@ module _ (Q : ℕ → ℕ → Type 0) where
       }
 
   -- One figure more.
-  kept-set : (k v : ℕ) (st : List ℕ) → k < 1672 → Q k v → Kept Q st → Kept Q (set st k v)
+  kept-set : (k v : ℕ) (st : List ℕ) → k < storeSize → Q k v → Kept Q st → Kept Q (set st k v)
   kept-set k v st h q z =
       record {
         long = length-set st k v ∙ z .long;
@@ -128,42 +122,42 @@ module _ (Q : ℕ → ℕ → Type 0) where
 
   -- The values of a line are as their places ask.
   abbrev pub Takes : Kind → ℕ → List ℕ → Type 0
-  Takes (Level resistance) k vs = Q k (getD vs 0 0)
-  Takes (Change p) k vs = Q (8 + k) (getD vs 0 0) × Q (72 + k) (getD vs 1 0)
-  Takes Work k vs = Q (136 + k) (getD vs 0 0) × Q (648 + k) (getD vs 1 0) × Q (1160 + k) (getD vs 2 0)
+  Takes (Level resistance) k vs = Q (powers + k) (getD vs 0 0)
+  Takes (Change p) k vs = Q (changeTimes + k) (getD vs 0 0) × Q (changeEnergies + k) (getD vs 1 0)
+  Takes Work k vs = Q (jobTimes + k) (getD vs 0 0) × Q (jobEnergies + k) (getD vs 1 0) × Q (decays + k) (getD vs 2 0)
 
   -- The values of one line more.
   put-kept : (kind : Kind) (k : ℕ) (vs st : List ℕ) → k < placesOf kind → Takes kind k vs → Kept Q st → Kept Q (put kind k vs st)
   unfolding put
-  put-kept (Level resistance) k vs st h q z = kept-set k _ st (omega arith) q z
-  put-kept (Change p) k vs st h q z = kept-set (72 + k) _ _ (omega arith) (q .1) (kept-set (8 + k) _ st (omega arith) (q .0) z)
+  put-kept (Level resistance) k vs st h q z = kept-set (powers + k) _ st (omega arith) q z
+  put-kept (Change p) k vs st h q z = kept-set (changeEnergies + k) _ _ (omega arith) (q .1) (kept-set (changeTimes + k) _ st (omega arith) (q .0) z)
   put-kept Work k vs st h q z =
-      kept-set (1160 + k) _ _ (omega arith) (q .2) (kept-set (648 + k) _ _ (omega arith) (q .1) (kept-set (136 + k) _ st (omega arith) (q .0) z))
+      kept-set (decays + k) _ _ (omega arith) (q .2) (kept-set (jobEnergies + k) _ _ (omega arith) (q .1) (kept-set (jobTimes + k) _ st (omega arith) (q .0) z))
 
   -- A block of lines, whether it is sound or not.
   module _ (kind : Kind) (b all : ℕ) (fits : b + all ≤ placesOf kind)
-      (takes : (j : ℕ) (line : List ℕ) → j < all → (rowFor kind j line) .fault ≡ Sound → Takes kind (b + j) ((rowFor kind j line) .values)) where
+      (takes : (j : ℕ) (line : List ℕ) → j < all → (fieldsFor kind j line) .fault ≡ Sound → Takes kind (b + j) ((fieldsFor kind j line) .values)) where
     pub block-kept : (n j : ℕ) (t : List ℕ) (ln : ℕ) (st : List ℕ) → j + n ≤ all → Kept Q st → Kept Q ((blockFrom kind b n j t ln st) .store)
     unfolding blockFrom
     block-kept zero j t ln st h z = z
     block-kept (suc n) j t ln st h z =
-        let row = rowFor kind j (until 10 t) in
+        let fields = fieldsFor kind j (until 10 t) in
         let P : Found → Type 0 = λ f. Kept Q (f .store) in
         cond-cases P (ahead 10 t) _ _
-        (λ a. after-cases P (row .fault) _ _ (λ o. z)
-        (λ s. block-kept n (j + 1) (beyond 10 t) (ln + 1) _ (omega arith) (put-kept kind (b + j) (row .values) st (omega arith) (takes j _ (omega arith) s) z)))
+        (λ a. after-cases P (fields .fault) _ _ (λ o. z)
+        (λ s. block-kept n (j + 1) (beyond 10 t) (ln + 1) _ (omega arith) (put-kept kind (b + j) (fields .values) st (omega arith) (takes j _ (omega arith) s) z)))
         (λ a. z)
 
 -- ---- the ranges, and the lower end of a job's time
 
 -- A figure v at place k of the store lies in its range.
 pub record Fits (resistance k v : ℕ) : Type 0 where
-  pub power : k < 8 → v ≤ 100000
-  pub steady : k < 8 → steadyState v resistance ≤ 20000
-  pub cost : 8 ≤ k → k < 1160 → v ≤ 10000000
-  pub stay-time : (p : ℕ) → p < 8 → k ≡ 8 + (p * 8 + p) → v ≡ 0
-  pub stay-energy : (p : ℕ) → p < 8 → k ≡ 72 + (p * 8 + p) → v ≡ 0
-  pub decay : 1160 ≤ k → v ≤ 65536
+  pub power : k < changeTimes → v ≤ powerMax
+  pub steady : k < changeTimes → steadyState v resistance ≤ steadyStateMax
+  pub cost : changeTimes ≤ k → k < decays → v ≤ costMax
+  pub stay-time : (p : ℕ) → p < levelsMax → k ≡ changeTimes + (p * levelsMax + p) → v ≡ 0
+  pub stay-energy : (p : ℕ) → p < levelsMax → k ≡ changeEnergies + (p * levelsMax + p) → v ≡ 0
+  pub decay : decays ≤ k → v ≤ decayMax
 
 -- Every place takes 0.
 pub fits-zero : (resistance k : ℕ) → Fits resistance k 0
@@ -172,9 +166,9 @@ fits-zero resistance k = omega arith
 
 module _ (resistance : ℕ) where
   -- The line of level j.
-  pub level-takes : (j : ℕ) (line : List ℕ) → j < 8 → (rowFor (Level resistance) j line) .fault ≡ Sound →
-      Takes (Fits resistance) (Level resistance) (0 + j) ((rowFor (Level resistance) j line) .values)
-  unfolding rowFor
+  pub level-takes : (j : ℕ) (line : List ℕ) → j < levelsMax → (fieldsFor (Level resistance) j line) .fault ≡ Sound →
+      Takes (Fits resistance) (Level resistance) (0 + j) ((fieldsFor (Level resistance) j line) .values)
+  unfolding fieldsFor
   level-takes j line h e =
       let w = level-held resistance line e in
       record {
@@ -187,8 +181,8 @@ module _ (resistance : ℕ) where
       }
 
   -- A time or an energy, of a change or of a job.
-  cost-fits : (k v : ℕ) → 8 ≤ k → k < 1160 → v ≤ 10000000 → ((p : ℕ) → p < 8 → k ≡ 8 + (p * 8 + p) → v ≡ 0) →
-      ((p : ℕ) → p < 8 → k ≡ 72 + (p * 8 + p) → v ≡ 0) → Fits resistance k v
+  cost-fits : (k v : ℕ) → changeTimes ≤ k → k < decays → v ≤ costMax → ((p : ℕ) → p < levelsMax → k ≡ changeTimes + (p * levelsMax + p) → v ≡ 0) →
+      ((p : ℕ) → p < levelsMax → k ≡ changeEnergies + (p * levelsMax + p) → v ≡ 0) → Fits resistance k v
   cost-fits k v l h c time energy =
       record {
         power = λ a. absurd (omega arith);
@@ -199,20 +193,20 @@ module _ (resistance : ℕ) where
         decay = λ a. absurd (omega arith);
       }
 
-  -- The line of a change from p to j; row place p * 8 + j is that of a stay only where j is p.
-  pub change-takes : (p : ℕ) → p < 8 → (j : ℕ) (line : List ℕ) → j < 8 → (rowFor (Change p) j line) .fault ≡ Sound →
-      Takes (Fits resistance) (Change p) (p * 8 + j) ((rowFor (Change p) j line) .values)
-  unfolding rowFor
+  -- The line of a change from p to j; place p * levelsMax + j is that of a stay only where j is p.
+  pub change-takes : (p : ℕ) → p < levelsMax → (j : ℕ) (line : List ℕ) → j < levelsMax → (fieldsFor (Change p) j line) .fault ≡ Sound →
+      Takes (Fits resistance) (Change p) (p * levelsMax + j) ((fieldsFor (Change p) j line) .values)
+  unfolding fieldsFor
   change-takes p l j line h e =
       let w = change-held p j line e in (
         cost-fits _ _ (omega arith) (omega arith) (w .time) (λ q a b. w .stay (omega arith) .0) (λ q a b. absurd (omega arith)),
         cost-fits _ _ (omega arith) (omega arith) (w .energy) (λ q a b. absurd (omega arith)) (λ q a b. w .stay (omega arith) .1),
       )
 
-  -- A line of a job, at row place k.
-  pub work-takes : (k j : ℕ) (line : List ℕ) → k < 512 → (rowFor Work j line) .fault ≡ Sound →
-      Takes (Fits resistance) Work k ((rowFor Work j line) .values)
-  unfolding rowFor
+  -- A line of a job, at place k.
+  pub work-takes : (k j : ℕ) (line : List ℕ) → k < worksMax → (fieldsFor Work j line) .fault ≡ Sound →
+      Takes (Fits resistance) Work k ((fieldsFor Work j line) .values)
+  unfolding fieldsFor
   work-takes k j line h e =
       let w = work-held line e in (
         cost-fits _ _ (omega arith) (omega arith) (w .time) (λ q a b. absurd (omega arith)) (λ q a b. absurd (omega arith)),
@@ -227,52 +221,52 @@ module _ (resistance : ℕ) where
         },
       )
 
--- The time at row place k of the jobs is at least 1, the lower end of its range.
+-- The time at place k of the jobs is at least 1, the lower end of its range.
 abbrev pub Timed : List ℕ → ℕ → Type 0
-Timed st k = 1 ≤ getD st (136 + k) 0
+Timed st k = 1 ≤ getD st (jobTimes + k) 0
 
 -- A time that was put is there.
-put-timed : (k : ℕ) (vs st : List ℕ) → k < 512 → length st ≡ 1672 → 1 ≤ getD vs 0 0 → Timed (put Work k vs st) k
+put-timed : (k : ℕ) (vs st : List ℕ) → k < worksMax → length st ≡ storeSize → 1 ≤ getD vs 0 0 → Timed (put Work k vs st) k
 unfolding put
 put-timed k vs st h long w =
-    let one = set st (136 + k) (getD vs 0 0) in
-    let two = set one (648 + k) (getD vs 1 0) in
+    let one = set st (jobTimes + k) (getD vs 0 0) in
+    let two = set one (jobEnergies + k) (getD vs 1 0) in
     rw (
-      getD-set-other two (1160 + k) (136 + k) (getD vs 2 0) 0 (λ e. omega arith),
-      getD-set-other one (648 + k) (136 + k) (getD vs 1 0) 0 (λ e. omega arith),
-      getD-set-same st (136 + k) (getD vs 0 0) 0 (omega arith),
+      getD-set-other two (decays + k) (jobTimes + k) (getD vs 2 0) 0 (λ e. omega arith),
+      getD-set-other one (jobEnergies + k) (jobTimes + k) (getD vs 1 0) 0 (λ e. omega arith),
+      getD-set-same st (jobTimes + k) (getD vs 0 0) 0 (omega arith),
     ) w
 
--- The B lines of a job, at row places from b on.
-module _ (b all : ℕ) (fits : b + all ≤ 512) where
+-- The B lines of a job, at place from b on.
+module _ (b all : ℕ) (fits : b + all ≤ worksMax) where
   -- They leave no time at 0 that was not 0 before.
-  pub work-stays : (n j : ℕ) (t : List ℕ) (ln : ℕ) (st : List ℕ) → j + n ≤ all → length st ≡ 1672 → (k : ℕ) → k < 512 →
+  pub work-stays : (n j : ℕ) (t : List ℕ) (ln : ℕ) (st : List ℕ) → j + n ≤ all → length st ≡ storeSize → (k : ℕ) → k < worksMax →
       Timed st k → Timed ((blockFrom Work b n j t ln st) .store) k
-  unfolding rowFor
+  unfolding fieldsFor
   work-stays n j t ln st h long k l w =
-      let Q : ℕ → ℕ → Type 0 = λ place v. place ≡ 136 + k → 1 ≤ v in
-      (block-kept Q Work b all fits takes n j t ln st h (record { long = long; each = λ place e. rw e w })) .each (136 + k) refl
+      let Q : ℕ → ℕ → Type 0 = λ place v. place ≡ jobTimes + k → 1 ≤ v in
+      (block-kept Q Work b all fits takes n j t ln st h (record { long = long; each = λ place e. rw e w })) .each (jobTimes + k) refl
     where
-      takes : (j : ℕ) (line : List ℕ) → j < all → (rowFor Work j line) .fault ≡ Sound →
-          Takes (λ place v. place ≡ 136 + k → 1 ≤ v) Work (b + j) ((rowFor Work j line) .values)
+      takes : (j : ℕ) (line : List ℕ) → j < all → (fieldsFor Work j line) .fault ≡ Sound →
+          Takes (λ place v. place ≡ jobTimes + k → 1 ≤ v) Work (b + j) ((fieldsFor Work j line) .values)
       takes j line m e = (λ q. work-held line e .least, λ q. absurd (omega arith), λ q. absurd (omega arith))
 
   -- Where they are sound, their own times are at least 1.
-  pub work-timed : (n j : ℕ) (t : List ℕ) (ln : ℕ) (st : List ℕ) → j + n ≤ all → length st ≡ 1672 → (blockFrom Work b n j t ln st) .fault ≡ Sound →
+  pub work-timed : (n j : ℕ) (t : List ℕ) (ln : ℕ) (st : List ℕ) → j + n ≤ all → length st ≡ storeSize → (blockFrom Work b n j t ln st) .fault ≡ Sound →
       (i : ℕ) → j ≤ i → i < j + n → Timed ((blockFrom Work b n j t ln st) .store) (b + i)
-  unfolding blockFrom rowFor
+  unfolding blockFrom fieldsFor
   work-timed zero j t ln st h long = λ e i lo hi. absurd (omega arith)
   work-timed (suc n) j t ln st h long =
-      let row = rowFor Work j (until 10 t) in
+      let fields = fieldsFor Work j (until 10 t) in
       let P : Found → Type 0 = λ f. f .fault ≡ Sound → (i : ℕ) → j ≤ i → i < j + suc n → Timed (f .store) (b + i) in
-      let new = put Work (b + j) (row .values) st in
-      let same : length new ≡ 1672 = put-length Work (b + j) (row .values) st ∙ long in
+      let new = put Work (b + j) (fields .values) st in
+      let same : length new ≡ storeSize = put-length Work (b + j) (fields .values) st ∙ long in
       cond-cases P (ahead 10 t) _ _
-      (λ a. after-cases P (row .fault) _ _ (λ o e. absurd (o e))
+      (λ a. after-cases P (fields .fault) _ _ (λ o e. absurd (o e))
       (λ s e i lo hi. elim (ℕ-discrete i j) [
         | yes d ↦
             rw d (work-stays n (j + 1) (beyond 10 t) (ln + 1) new (omega arith) same (b + j) (omega arith)
-            (put-timed (b + j) (row .values) st (omega arith) long (work-held (until 10 t) s .least)))
+            (put-timed (b + j) (fields .values) st (omega arith) long (work-held (until 10 t) s .least)))
         | no d ↦ work-timed n (j + 1) (beyond 10 t) (ln + 1) new (omega arith) same e i (omega arith) (omega arith)
       ]))
       (λ a e. absurd (shapeless e))

@@ -7,23 +7,25 @@ use lib.Dec.{ltb}
 use lib.ListN.{getD, replicate}
 use Rattle.text.specs.Text.{until, beyond, ahead}
 use Rattle.thermal.specs.Thermal.{steadyState}
-use Rattle.rows.specs.Row.{rowOf}
-use Rattle.rows.proofs.Fields.{fieldIn, FieldLe, row-field}
-use Rattle.lines.specs.declared.Kind.{Kind}
-use Rattle.lines.specs.declared.Kind.the-variants.{Level, Change, Work}
-use Rattle.lines.specs.Lines.{steadyRow, levelRow, changeRow, workRow, rowFor, put, Found, blockFrom}
-use Rattle.lines.proofs.Kept.{cond-cases, after-cases}
+use Rattle.fields.specs.Fields.{fieldsOf}
+use Rattle.fields.proofs.Within.{cond-cases}
+use Rattle.fields.proofs.After.{after-cases}
+use Rattle.fields.proofs.Faults.{fieldIn, FieldLe, fields-field}
+use Rattle.line_kinds.specs.declared.Kind.{Kind}
+use Rattle.line_kinds.specs.declared.Kind.the-variants.{Level, Change, Work}
+use Rattle.line_kinds.specs.Figures.{steadyStateMax, levelHi, steadyFields, levelFields, changeFields, workFields, fieldsFor, put}
+use Rattle.lines.specs.Lines.{Found, blockFrom}
 
 -- A line of a kind.
-for-field : (kind : Kind) (j : ℕ) (line : List ℕ) → FieldLe (rowFor kind j line)
-unfolding rowFor levelRow steadyRow changeRow workRow
+for-field : (kind : Kind) (j : ℕ) (line : List ℕ) → FieldLe (fieldsFor kind j line)
+unfolding fieldsFor levelFields steadyFields changeFields workFields
 for-field (Level resistance) j line =
-    let row = rowOf 76 1 (replicate 10 0) (100000 ∷ replicate 9 0) line in
-    let h = row-field 76 1 (replicate 10 0) (100000 ∷ replicate 9 0) line (omega arith) in
-    after-cases FieldLe (row .fault) _ _ (λ o. h)
-    (λ s. cond-cases FieldLe (ltb 20000 (steadyState (getD (row .values) 0 0) resistance)) _ _ (λ c. omega arith) (λ c. h))
-for-field (Change p) j line = row-field 83 2 _ _ line (omega arith)
-for-field Work j line = row-field 66 3 _ _ line (omega arith)
+    let fields = fieldsOf 76 1 (replicate 10 0) levelHi line in
+    let h = fields-field 76 1 (replicate 10 0) levelHi line (omega arith) in
+    after-cases FieldLe (fields .fault) _ _ (λ o. h)
+    (λ s. cond-cases FieldLe (ltb steadyStateMax (steadyState (getD (fields .values) 0 0) resistance)) _ _ (λ c. omega arith) (λ c. h))
+for-field (Change p) j line = fields-field 83 2 _ _ line (omega arith)
+for-field Work j line = fields-field 66 3 _ _ line (omega arith)
 
 -- The reading stopped at line `most` at the latest, with a fault of field 11 at the latest.
 pub record Placed (most : ℕ) (f : Found) : Type 0 where
@@ -35,9 +37,9 @@ pub block-placed : (kind : Kind) (b n j : ℕ) (t : List ℕ) (ln : ℕ) (st : L
 unfolding blockFrom
 block-placed kind b zero j t ln st = omega arith
 block-placed kind b (suc n) j t ln st =
-    let row = rowFor kind j (until 10 t) in
+    let fields = fieldsFor kind j (until 10 t) in
     let P = Placed (ln + suc n) in
     cond-cases P (ahead 10 t) _ _
-    (λ a. after-cases P (row .fault) _ _ (λ o. omega (arith, for-field kind j (until 10 t)))
-    (λ s. omega (arith, block-placed kind b n (j + 1) (beyond 10 t) (ln + 1) (put kind (b + j) (row .values) st))))
+    (λ a. after-cases P (fields .fault) _ _ (λ o. omega (arith, for-field kind j (until 10 t)))
+    (λ s. omega (arith, block-placed kind b n (j + 1) (beyond 10 t) (ln + 1) (put kind (b + j) (fields .values) st))))
     (λ a. omega arith)

@@ -1,4 +1,4 @@
--- Laws of the first level that is too high.
+-- Laws of the first level that is too high, by induction over the list.
 -- Assumes nothing.
 use mathlib.Core.Path.{_≡_, refl, ap, _∙_}
 use mathlib.Core.List.{List, [], _∷_}
@@ -6,7 +6,7 @@ use Prim.Native.Nat.{ℕ, zero, suc, _+_, _≤_, _<_}
 use native.Mathlib.Numerals.{add-one}
 use native.Mathlib.Decide.{decLt}
 use native.Mathlib.Omega.{arith}
-use lib.ListN.{length, getD, drop, drop-of-length-le, List·getD-eq-default}
+use lib.ListN.{length, getD, drop, drop-of-length-le}
 use lib.Seq.{drop-cons}
 use borrow.Author.Tests.{le-leb, lt-leb}
 use Rattle.frame.specs.Demands.{Below}
@@ -72,10 +72,6 @@ module _ (l : ℕ) where
   below-none [] b = omega arith
   below-none (j ∷ js) b = omega (arith, above-on l js j (b .0), below-none js (b .1))
 
-  -- Beyond the list stands 0.
-  pub below-all : (js : List ℕ) → 1 ≤ l → length js ≤ firstAbove l js → (i : ℕ) → getD js i 0 < l
-  below-all js h q i =
-      elim (decLt i (length js)) [
-        | yes b ↦ below-before js i (omega arith)
-        | no b ↦ rw (List·getD-eq-default js 0 {n = i} (omega arith)) h
-      ]
+  -- Each level of a list that has none is below l.
+  pub below-each : (js : List ℕ) → Below l js → (i : ℕ) → i < length js → getD js i 0 < l
+  below-each js b i h = below-before js i (omega (arith, below-none js b))

@@ -1,4 +1,5 @@
--- The measuring call in words follows from its equation, and leaves no other answer.
+-- The measuring call in words follows from its equation, and leaves no other answer: by the four ways of the definition, each of
+-- which the words tell apart by the reply's number.
 -- Assumes nothing.
 use mathlib.Core.Path.{_≡_, refl, ap, _∙_}
 use mathlib.Core.Bool.{cond}
@@ -13,18 +14,19 @@ use Rattle.frame.specs.Sheet.{Sheet}
 use Rattle.frame.specs.Demands.{Below}
 use Rattle.frame.specs.Limits.{margins}
 use Rattle.frame.proofs.Margins.{margins-met, margins-meet}
-use Rattle.sheet.specs.Reading.{numberOf, sheetOf}
-use Rattle.sheet.specs.Frame.{frameOf}
-use Rattle.sheet.proofs.Apart.{cond-cases, accepted-ways, accepted-refused}
+use Rattle.fields.proofs.Within.{cond-cases}
+use Rattle.refusal.specs.Code.{numberOf}
+use Rattle.refusal.proofs.Apart.{accepted-ways, accepted-refused}
+use Rattle.sheet.specs.Reading.{readingOf, sheetIn}
 use Rattle.measure.specs.declared.Measured.{Measured}
-use Rattle.measure.specs.Measure.{firstAbove, refusedAs, measuredAs, turnedAway, measureOf}
+use Rattle.measure.specs.Measure.{firstAbove, refusedMeasured, measuredAs, turnedAway, measureOf}
 use Rattle.measure.specs.Meaning.{Judged, Meaning}
 use Rattle.measure.proofs.Levels.{above-at, below-before, none-below, below-none}
 
 -- ---- the three ways of a list
 
 module _ (s : Sheet) (js : List ℕ) where
-  on-length : ¬ (length js ≡ s.jobs) → Judged s js (refusedAs 11 0 0)
+  on-length : ¬ (length js ≡ s.jobs) → Judged s js (refusedMeasured 11 0 0)
   on-length n =
       record {
         eleven = ((λ e. n), (λ h. refl));
@@ -41,7 +43,7 @@ module _ (s : Sheet) (js : List ℕ) where
       }
 
   module _ (m : length js ≡ s.jobs) where
-    on-level : firstAbove s.levels js < length js → Judged s js (refusedAs 12 0 (firstAbove s.levels js))
+    on-level : firstAbove s.levels js < length js → Judged s js (refusedMeasured 12 0 (firstAbove s.levels js))
     on-level h =
         let n : ¬ Below s.levels js = λ b. omega (arith, h, below-none s.levels js b) in
         record {
@@ -76,7 +78,7 @@ module _ (s : Sheet) (js : List ℕ) where
         }
 
   judged : let place = firstAbove s.levels js in
-      Judged s js (cond (eqb (length js) s.jobs) (cond (ltb place (length js)) (refusedAs 12 0 place) (measuredAs (margins s js))) (refusedAs 11 0 0))
+      Judged s js (cond (eqb (length js) s.jobs) (cond (ltb place (length js)) (refusedMeasured 12 0 place) (measuredAs (margins s js))) (refusedMeasured 11 0 0))
   judged =
       let place = firstAbove s.levels js in
       cond-cases (Judged s js) (eqb (length js) s.jobs) _ _
@@ -84,12 +86,12 @@ module _ (s : Sheet) (js : List ℕ) where
       (λ m. on-length (eqb-false _ _ m))
 
 measure-means : (t js : List ℕ) → Meaning t js (measureOf t js)
-unfolding measureOf frameOf
+unfolding measureOf
 measure-means t js =
     record {
-      fails = λ n. accepted-refused ((sheetOf t) .refusal) turnedAway _ n;
+      fails = λ n. accepted-refused ((readingOf t) .refusal) turnedAway _ n;
       passes = λ e.
-          accepted-ways (Judged (frameOf (sheetOf t)) js) ((sheetOf t) .refusal) turnedAway _ (λ l h. absurd (omega (arith, l, ap numberOf e))) (λ z. judged (frameOf (sheetOf t)) js);
+          accepted-ways (Judged (sheetIn t) js) ((readingOf t) .refusal) turnedAway _ (λ l h. absurd (omega (arith, l, ap numberOf e))) (λ z. judged (sheetIn t) js);
     }
 
 -- Beside the equation, the words.
@@ -111,7 +113,7 @@ first-only l js k h a b =
     ]
 
 judged-only : (s : Sheet) (js : List ℕ) (q : Measured) → Judged s js q → let place = firstAbove s.levels js in
-    q ≡ cond (eqb (length js) s.jobs) (cond (ltb place (length js)) (refusedAs 12 0 place) (measuredAs (margins s js))) (refusedAs 11 0 0)
+    q ≡ cond (eqb (length js) s.jobs) (cond (ltb place (length js)) (refusedMeasured 12 0 place) (measuredAs (margins s js))) (refusedMeasured 11 0 0)
 judged-only s js q w =
     let place = firstAbove s.levels js in
     let P : Measured → Type 0 = λ x. q ≡ x in
@@ -120,12 +122,12 @@ judged-only s js q w =
     (λ h.
     let k = ltb-true place (length js) h in
     let e = w .twelve .1 (eqb-true _ _ m, λ b. omega (arith, k, below-none s.levels js b)) in
-    w .level-reply e ∙ ap (refusedAs 12 0) (first-only s.levels js (q .field) k (w .level-place e .0) (w .level-place e .1)))
+    w .level-reply e ∙ ap (refusedMeasured 12 0) (first-only s.levels js (q .field) k (w .level-place e .0) (w .level-place e .1)))
     (λ h. w .margins-reply (w .measured .1 (record { size = eqb-true _ _ m; below = none-below s.levels js (ltb-false _ _ h) }))))
     (λ m. w .length-reply (w .eleven .1 (eqb-false _ _ m)))
 
 pub meaning-unique : (t js : List ℕ) (q : Measured) → Meaning t js q → q ≡ measureOf t js
-unfolding measureOf frameOf
+unfolding measureOf
 meaning-unique t js q w =
-    accepted-ways (λ x. q ≡ x) ((sheetOf t) .refusal) turnedAway _ (λ l h. w .fails (λ e. omega (arith, l, ap numberOf e)))
-    (λ e. judged-only (frameOf (sheetOf t)) js q (w .passes e))
+    accepted-ways (λ x. q ≡ x) ((readingOf t) .refusal) turnedAway _ (λ l h. w .fails (λ e. omega (arith, l, ap numberOf e)))
+    (λ e. judged-only (sheetIn t) js q (w .passes e))

@@ -12,11 +12,10 @@ use Rattle.frame.specs.Sheet.{Sheet}
 use Rattle.frame.specs.Run.{start, exact, exactRun}
 use Rattle.frame.specs.Limits.{Meets, limits, margins}
 use Rattle.frame.specs.Demands.{Below, LevelList}
-use Rattle.sheet.specs.declared.Refusal.the-variants.{Nothing}
-use Rattle.sheet.specs.Reading.{sheetOf}
-use Rattle.sheet.specs.Frame.{frameOf}
+use Rattle.refusal.specs.declared.Refusal.the-variants.{Nothing}
+use Rattle.sheet.specs.Reading.{readingOf, sheetIn}
 use Rattle.measure.specs.declared.Measured.{Measured}
-use Rattle.measure.specs.Measure.{refusedAs, measuredAs, turnedAway}
+use Rattle.measure.specs.Measure.{refusedMeasured, measuredAs, turnedAway}
 
 -- A list on a sheet that passes 1 to 6.
 pub record Judged (s : Sheet) (js : List ℕ) (q : Measured) : Type 0 where
@@ -27,9 +26,9 @@ pub record Judged (s : Sheet) (js : List ℕ) (q : Measured) : Type 0 where
   -- every list of m levels, each below l, is measured, and no other
   pub measured : (q .refusal ≡ 0) ↔ LevelList s s.jobs js
   -- 11 returns "0, 0"
-  pub length-reply : q .refusal ≡ 11 → q ≡ refusedAs 11 0 0
+  pub length-reply : q .refusal ≡ 11 → q ≡ refusedMeasured 11 0 0
   -- 12 returns "line 0, field the first such place, from 0"
-  pub level-reply : q .refusal ≡ 12 → q ≡ refusedAs 12 0 (q .field)
+  pub level-reply : q .refusal ≡ 12 → q ≡ refusedMeasured 12 0 (q .field)
   pub level-place : q .refusal ≡ 12 → (s.levels ≤ getD js (q .field) 0) × ((i : ℕ) → i < q .field → getD js i 0 < s.levels)
   -- "three signed margins"
   pub margins-reply : q .refusal ≡ 0 → q ≡ measuredAs (margins s js)
@@ -43,5 +42,5 @@ pub record Judged (s : Sheet) (js : List ℕ) (q : Measured) : Type 0 where
 -- "The measuring call takes any list of levels", on any bytes offered as a sheet.
 pub record Meaning (t js : List ℕ) (q : Measured) : Type 0 where
   -- a sheet that fails one of checks 1 to 6 is refused for the first that it fails
-  pub fails : ¬ ((sheetOf t) .refusal ≡ Nothing) → q ≡ turnedAway ((sheetOf t) .refusal)
-  pub passes : (sheetOf t) .refusal ≡ Nothing → Judged (frameOf (sheetOf t)) js q
+  pub fails : ¬ ((readingOf t) .refusal ≡ Nothing) → q ≡ turnedAway ((readingOf t) .refusal)
+  pub passes : (readingOf t) .refusal ≡ Nothing → Judged (sheetIn t) js q

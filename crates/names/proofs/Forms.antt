@@ -10,18 +10,23 @@ use lib.Dec.{eqb, ltb}
 use lib.ListN.{length, getD, replicate}
 use borrow.Author.Tests.{ltb-false}
 use Rattle.text.specs.Text.{until, beyond, ahead}
-use Rattle.text.specs.Number.{isName}
-use Rattle.rows.specs.Row.{opens, nameFault}
-use Rattle.rows.specs.declared.Fault.{Fault}
-use Rattle.rows.specs.declared.Fault.the-variants.{Sound, Shape}
-use Rattle.rows.proofs.Within.{malformed, shapeless}
-use Rattle.lines.specs.Lines.{after, Found, rowFor, blockFrom}
-use Rattle.lines.specs.declared.Kind.{Kind}
-use Rattle.lines.specs.declared.Kind.the-variants.{Level, Change, Work}
-use Rattle.lines.proofs.Kept.{cond-cases, after-cases}
-use Rattle.sheet.specs.Body.{onward, changesFrom, jobsFrom, bodyFrom}
-use Rattle.sheet.specs.declared.Refusal.the-variants.{Nothing}
-use Rattle.sheet.specs.Reading.{sheetOf}
+use Rattle.name_lines.specs.Name.{isName}
+use Rattle.fields.specs.Fields.{opens}
+use Rattle.name_lines.specs.Name.{nameFault}
+use Rattle.fields.specs.declared.Fault.{Fault}
+use Rattle.fields.specs.declared.Fault.the-variants.{Sound, Shape}
+use Rattle.fields.proofs.Within.{malformed, shapeless}
+use Rattle.fields.specs.Fields.{after}
+use Rattle.lines.specs.Lines.{Found, blockFrom}
+use Rattle.line_kinds.specs.Figures.{fieldsFor}
+use Rattle.line_kinds.specs.declared.Kind.{Kind}
+use Rattle.line_kinds.specs.declared.Kind.the-variants.{Level, Change, Work}
+use Rattle.fields.proofs.Within.{cond-cases}
+use Rattle.fields.proofs.After.{after-cases}
+use Rattle.store.specs.Store.{levelsMax, storeSize}
+use Rattle.body.specs.Body.{onward, changesFrom, jobsFrom, bodyFrom, bodyLine, linesBefore}
+use Rattle.refusal.specs.declared.Refusal.the-variants.{Nothing}
+use Rattle.sheet.specs.Reading.{readingOf}
 use Rattle.sheet.proofs.Whole.{bodyOf, Whole, read-whole}
 use Rattle.names.specs.Name.{skip, nameAt, nameOf}
 use Rattle.names.proofs.Name.{name-some}
@@ -89,17 +94,17 @@ block-passes : (kind : Kind) (b n j : ℕ) (t : List ℕ) (ln : ℕ) (st : List 
 unfolding blockFrom
 block-passes kind b zero j t ln st = λ e. passed-none t
 block-passes kind b (suc n) j t ln st =
-    line-sound (λ f. Passed (suc n) t (f .rest)) t ln st ((rowFor kind j (until 10 t)) .fault) _
+    line-sound (λ f. Passed (suc n) t (f .rest)) t ln st ((fieldsFor kind j (until 10 t)) .fault) _
     (λ a s e. passed-more a (block-passes kind b n (j + 1) (beyond 10 t) (ln + 1) _ e))
 
 changes-passes : (l n p : ℕ) (t : List ℕ) (ln : ℕ) (st : List ℕ) → Passes (n * l) t (changesFrom l n p t ln st)
 unfolding changesFrom
 changes-passes l zero p t ln st = λ e. let z : 0 * l ≡ 0 = omega arith in rw z (passed-none t)
 changes-passes l (suc n) p t ln st =
-    let f = blockFrom (Change p) (p * 8) l 0 t ln st in
+    let f = blockFrom (Change p) (p * levelsMax) l 0 t ln st in
     let z : suc n * l ≡ l + n * l = omega arith in
     rw z (onward-sound (λ g. Passed (l + n * l) t (g .rest)) f (changesFrom l n (p + 1))
-    (λ s e. passed-add (block-passes (Change p) (p * 8) l 0 t ln st s) (changes-passes l n (p + 1) (f .rest) (f .line) (f .store) e)))
+    (λ s e. passed-add (block-passes (Change p) (p * levelsMax) l 0 t ln st s) (changes-passes l n (p + 1) (f .rest) (f .line) (f .store) e)))
 
 -- ---- the names of jobs
 
@@ -146,11 +151,11 @@ jobs-named l zero i t ln st = λ e.
     record { passed = rw z (passed-none t); named = λ k h. absurd (omega arith) }
 jobs-named l (suc n) i t ln st =
     let P : Found → Type 0 = λ g. Named l (suc n) 0 t (g .rest) in
-    let f = blockFrom Work (i * 8) l 0 (beyond 10 t) (ln + 1) st in
+    let f = blockFrom Work (i * levelsMax) l 0 (beyond 10 t) (ln + 1) st in
     let z : l + 1 ≡ suc l = omega arith in
     line-sound P t ln st (nameFault (until 10 t)) (onward f (jobsFrom l n (i + 1)))
     (λ a s. onward-sound P f (jobsFrom l n (i + 1))
-    (λ s′ e. named-more (name-formed (until 10 t) s) (rw z (passed-more a (block-passes Work (i * 8) l 0 (beyond 10 t) (ln + 1) st s′)))
+    (λ s′ e. named-more (name-formed (until 10 t) s) (rw z (passed-more a (block-passes Work (i * levelsMax) l 0 (beyond 10 t) (ln + 1) st s′)))
     (jobs-named l n (i + 1) (f .rest) (f .line) (f .store) e)))
 
 body-named : (m l resistance : ℕ) (t : List ℕ) (ln : ℕ) (st : List ℕ) → (bodyFrom m l resistance t ln st) .fault ≡ Sound →
@@ -166,24 +171,24 @@ body-named m l resistance t ln st =
 
 -- ---- a whole sheet
 
-sheet-named : (t : List ℕ) (w : Whole t (sheetOf t)) →
-    Named ((sheetOf t) .levels) ((sheetOf t) .jobs) (2 + (sheetOf t) .levels + (sheetOf t) .levels * (sheetOf t) .levels) t ((bodyOf (w .vs) (beyond 10 (beyond 10 t))) .rest)
+sheet-named : (t : List ℕ) (w : Whole t (readingOf t)) →
+    let h = (readingOf t) .head in Named (h .levels) (h .jobs) (2 + h .levels + h .levels * h .levels) t ((bodyOf (w .vs) (beyond 10 (beyond 10 t))) .rest)
 sheet-named t w =
     let m = getD (w .vs) 0 0 in
     let l = getD (w .vs) 1 0 in
     let z : 2 + l + l * l ≡ 2 + (l + l * l) = omega arith in
     rw (w .same, z)
-    (named-add (passed-more (w .first) (passed-more (w .second) (passed-none _))) (body-named m l (getD (w .vs) 7 0) (beyond 10 (beyond 10 t)) 3 (replicate 1672 0) (w .sound)))
+    (named-add (passed-more (w .first) (passed-more (w .second) (passed-none _))) (body-named m l (getD (w .vs) 7 0) (beyond 10 (beyond 10 t)) bodyLine (replicate storeSize 0) (w .sound)))
 
 -- Every line of a sheet that is read is ended.
-pub lines-ahead : (t : List ℕ) (n : ℕ) → (sheetOf t) .refusal ≡ Nothing →
-    n < 2 + (sheetOf t) .levels + (sheetOf t) .levels * (sheetOf t) .levels + (sheetOf t) .jobs * ((sheetOf t) .levels + 1) →
+pub lines-ahead : (t : List ℕ) (n : ℕ) → (readingOf t) .refusal ≡ Nothing →
+    n < linesBefore ((readingOf t) .head .levels) ((readingOf t) .head .jobs) →
     ahead 10 (skip n t) ≡ true
 lines-ahead t n e h = (sheet-named t (read-whole t e)) .passed .ended n h
 
 -- The name of a job of a sheet that is read is of the written form: "name (1 to 16 bytes, each 33 to 126)".
-pub job-name-form : (t : List ℕ) (i : ℕ) → (sheetOf t) .refusal ≡ Nothing → i < (sheetOf t) .jobs → isName (nameOf t i) ≡ true
-job-name-form t i e h = rw (name-some t i (sheetOf t) refl h) ((sheet-named t (read-whole t e)) .named i h)
+pub job-name-form : (t : List ℕ) (i : ℕ) → (readingOf t) .refusal ≡ Nothing → i < (readingOf t) .head .jobs → isName (nameOf t i) ≡ true
+job-name-form t i e h = rw (name-some t i (readingOf t) refl h) ((sheet-named t (read-whole t e)) .named i h)
 
 -- A name has at most 16 bytes.
 name-short : (t : List ℕ) → isName t ≡ true → length t ≤ 16
@@ -193,5 +198,5 @@ name-short t =
     let none : P false = λ e. absurd (let z : _≡_ {A = ℕ} 0 1 = cc in omega arith) in
     cond-cases P (eqb (length t) 0) _ _ (λ a. none) (λ a. cond-cases P (ltb 16 (length t)) _ _ (λ b. none) (λ b e. ltb-false _ _ b))
 
-pub job-name-short : (t : List ℕ) (i : ℕ) → (sheetOf t) .refusal ≡ Nothing → i < (sheetOf t) .jobs → length (nameOf t i) ≤ 16
+pub job-name-short : (t : List ℕ) (i : ℕ) → (readingOf t) .refusal ≡ Nothing → i < (readingOf t) .head .jobs → length (nameOf t i) ≤ 16
 job-name-short t i e h = name-short (nameOf t i) (job-name-form t i e h)

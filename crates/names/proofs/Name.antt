@@ -13,9 +13,10 @@ use Rattle.text.specs.Line.{LineAt}
 use Rattle.text.specs.declared.Line.{Line}
 use Rattle.text.proofs.Text.{drop-none, beyond-part}
 use Rattle.text.proofs.Scanned.{line-part, line-beyond}
-use Rattle.sheet.specs.declared.Reading.{Reading}
-use Rattle.sheet.specs.Reading.{sheetOf}
-use Rattle.sheet.proofs.Head.{Counts, counts}
+use Rattle.store.specs.Store.{jobsMax, levelsMax}
+use Rattle.body.specs.Body.{jobLines, linesBefore}
+use Rattle.sheet.specs.Reading.{SheetRead, readingOf}
+use Rattle.sheet.proofs.Whole.{Counts, counts}
 use Rattle.names.specs.Name.{skip, nameAt, nameOf}
 
 -- Nothing is left behind the last byte.
@@ -79,19 +80,20 @@ name-reached s n p e = ap (λ (x : List ℕ). beyond 9 (until 10 x)) e
 
 -- ---- a job's name in a sheet that was read
 
-module _ (t : List ℕ) (i : ℕ) (r : Reading) (e : r ≡ sheetOf t) where
-  pub name-none : r .jobs ≤ i → nameOf t i ≡ []
+module _ (t : List ℕ) (i : ℕ) (r : SheetRead) (e : r ≡ readingOf t) where
+  pub name-none : r .head .jobs ≤ i → nameOf t i ≡ []
   unfolding nameOf
-  name-none h = rw (← e, le-leb (r .jobs) i h) refl
+  name-none h = rw (← e, le-leb (r .head .jobs) i h) refl
 
-  pub name-some : i < r .jobs → nameOf t i ≡ nameAt (2 + r .levels + r .levels * r .levels + i * (r .levels + 1)) t
+  pub name-some : i < r .head .jobs → nameOf t i ≡ nameAt (linesBefore (r .head .levels) i) t
   unfolding nameOf
-  name-some h = rw (← e, lt-leb (r .jobs) i h) refl
+  name-some h = rw (← e, lt-leb (r .head .jobs) i h) refl
 
-  -- The number of a J line is small.
-  pub name-small : i < r .jobs → (r .levels ≤ 8) × (r .levels * r .levels ≤ 8 * 8) × (i * (r .levels + 1) ≤ 64 * 9)
-  name-small h =
-      let c : Counts r = rw e (counts t) in
-      let m : i ≤ 64 = omega (arith, c .jobs) in
-      let n : r .levels + 1 ≤ 9 = omega (arith, c .levels) in
-      (c .levels, mul-le-mul (c .levels) (c .levels), mul-le-mul m n)
+  -- What the number of its J line may rest on.
+  pub name-small : i < r .head .jobs → (r .head .levels ≤ levelsMax) × (i ≤ jobsMax)
+  name-small h = let c : Counts r = rw e (counts t) in (c .levels, omega (arith, c .jobs))
+
+-- ---- the number of a J line
+
+pub lines-small : (l i : ℕ) → l ≤ levelsMax → i ≤ jobsMax → (l * l ≤ levelsMax * levelsMax) × (i * jobLines l ≤ jobsMax * jobLines levelsMax)
+lines-small l i h k = let n : jobLines l ≤ jobLines levelsMax = omega arith in (mul-le-mul h h, mul-le-mul k n)

@@ -3,10 +3,12 @@
 -- Assumes nothing.
 use mathlib.Core.Bool.{cond}
 use mathlib.Core.List.{List, []}
-use Prim.Native.Nat.{ℕ, zero, suc, _+_, _*_}
+use Prim.Native.Nat.{ℕ, zero, suc}
 use lib.Dec.{leb}
 use Rattle.text.specs.Text.{until, beyond}
-use Rattle.sheet.specs.Reading.{sheetOf}
+use Rattle.store.specs.declared.Head.{Head}
+use Rattle.body.specs.Body.{linesBefore}
+use Rattle.sheet.specs.Reading.{readingOf}
 
 -- The text after its first n lines.
 unfoldable pub skip : ℕ → List ℕ → List ℕ
@@ -17,9 +19,8 @@ skip (suc n) t = skip n (beyond 10 t)
 unfoldable pub nameAt : ℕ → List ℕ → List ℕ
 nameAt n t = beyond 9 (until 10 (skip n t))
 
--- The name of job i, from 0: its J line comes behind the V line, the H line, l lines L, l × l lines S, and a J line and l lines B
--- for each job before it. A refused sheet has no jobs.
+-- The name of job i, from 0. A refused sheet has no jobs.
 unfoldable pub nameOf : List ℕ → ℕ → List ℕ
 nameOf t i =
-    let l : ℕ = (sheetOf t) .levels in
-    cond (leb ((sheetOf t) .jobs) i) [] (nameAt (2 + l + l * l + i * (l + 1)) t)
+    let h : Head = (readingOf t) .head in
+    cond (leb (h .jobs) i) [] (nameAt (linesBefore (h .levels) i) t)

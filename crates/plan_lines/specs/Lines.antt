@@ -2,8 +2,8 @@
 -- 9."
 -- Assumes nothing.
 use mathlib.Core.List.{List, [], _∷_, _++_}
-use Prim.Native.Nat.{ℕ}
-use Rattle.writer.specs.Decimal.{field}
+use Prim.Native.Nat.{ℕ, _+_, _*_}
+use Rattle.writer.specs.Decimal.{field, fieldMax}
 
 -- "prints a P line (m, time, energy, final temperature)"; P is byte 80
 unfoldable pub planLine : ℕ → ℕ → ℕ → ℕ → List ℕ
@@ -18,3 +18,17 @@ jobLine name level time energy temperature =
 -- "or one R line (refusal, line, field)"; R is byte 82
 unfoldable pub refusalLine : ℕ → ℕ → ℕ → List ℕ
 refusalLine number line place = (82 ∷ []) ++ field number ++ field line ++ field place ++ (10 ∷ [])
+
+-- "name (1 to 16 bytes, ..)"
+abbrev pub nameMax : ℕ
+nameMax = 16
+
+-- The most bytes of a P line, of a Q line and of an R line, with the byte 10 at the end.
+abbrev pub planLineMax : ℕ
+planLineMax = 1 + 4 * fieldMax + 1
+
+abbrev pub jobLineMax : ℕ
+jobLineMax = 2 + nameMax + 4 * fieldMax + 1
+
+abbrev pub refusalLineMax : ℕ
+refusalLineMax = 1 + 3 * fieldMax + 1

@@ -1,10 +1,11 @@
 // The lines of plan text. Each function hands back the place after its line.
-ghost use Prim.Native.Nat.{_+_, _≤_, _<_, _^_};
+ghost use Prim.Native.Nat.{_+_, _≤_, _<_};
 ghost use lib.ListN.{length};
+ghost use Rattle.writer.specs.Decimal.{numberEnd};
 ghost use Rattle.writer.specs.Written.{Wrote};
-ghost use Rattle.plan_lines.specs.Lines.{planLine, jobLine, refusalLine};
+ghost use Rattle.plan_lines.specs.Lines.{planLine, jobLine, refusalLine, nameMax, planLineMax, jobLineMax, refusalLineMax};
 
-// The plan's P line: a letter, four fields of at most 11 bytes, and the line's end.
+// The plan's P line.
 pub fn put_plan_line(
     text: &mut [u8],
     at: usize,
@@ -13,9 +14,9 @@ pub fn put_plan_line(
     energy: u64,
     temperature: u64,
 ) -> usize
-    requires { ⌜ (jobs < 10 ^ 10) × (time < 10 ^ 10) × (energy < 10 ^ 10) × (temperature < 10 ^ 10) × (at + 46 ≤ length (now text)) ⌝ }
+    requires { ⌜ (jobs < numberEnd) × (time < numberEnd) × (energy < numberEnd) × (temperature < numberEnd) × (at + planLineMax ≤ length (now text)) ⌝ }
     ensures { λ r. ⌜ Wrote (now (text .entry)) at (planLine jobs time energy temperature) (now (text .exit)) r ⌝ }
-    ensures { λ r. ⌜ r ≤ at + 46 ⌝ }
+    ensures { λ r. ⌜ r ≤ at + planLineMax ⌝ }
 {
     let letter_end = writer::put_byte(text, at, b'P');
     let jobs_end = writer::put_field(text, letter_end, jobs);
@@ -25,7 +26,7 @@ pub fn put_plan_line(
     writer::put_byte(text, figures_end, b'\n')
 }
 
-// A job's Q line; a name has at most 16 bytes.
+// A job's Q line.
 pub fn put_job_line(
     text: &mut [u8],
     at: usize,
@@ -35,9 +36,9 @@ pub fn put_job_line(
     energy: u64,
     temperature: u64,
 ) -> usize
-    requires { ⌜ (level < 10 ^ 10) × (time < 10 ^ 10) × (energy < 10 ^ 10) × (temperature < 10 ^ 10) × (length (now name) ≤ 16) × (at + 63 ≤ length (now text)) ⌝ }
+    requires { ⌜ (level < numberEnd) × (time < numberEnd) × (energy < numberEnd) × (temperature < numberEnd) × (length (now name) ≤ nameMax) × (at + jobLineMax ≤ length (now text)) ⌝ }
     ensures { λ r. ⌜ Wrote (now (text .entry)) at (jobLine (now (name .entry)) level time energy temperature) (now (text .exit)) r ⌝ }
-    ensures { λ r. ⌜ r ≤ at + 63 ⌝ }
+    ensures { λ r. ⌜ r ≤ at + jobLineMax ⌝ }
 {
     let tab_end = writer::put_bytes(text, at, b"Q\t");
     let name_end = writer::put_bytes(text, tab_end, name);
@@ -50,9 +51,9 @@ pub fn put_job_line(
 
 // The R line of a sheet that has no plan.
 pub fn put_refusal_line(text: &mut [u8], at: usize, number: u64, line: u64, field: u64) -> usize
-    requires { ⌜ (number < 10 ^ 10) × (line < 10 ^ 10) × (field < 10 ^ 10) × (at + 35 ≤ length (now text)) ⌝ }
+    requires { ⌜ (number < numberEnd) × (line < numberEnd) × (field < numberEnd) × (at + refusalLineMax ≤ length (now text)) ⌝ }
     ensures { λ r. ⌜ Wrote (now (text .entry)) at (refusalLine number line field) (now (text .exit)) r ⌝ }
-    ensures { λ r. ⌜ r ≤ at + 35 ⌝ }
+    ensures { λ r. ⌜ r ≤ at + refusalLineMax ⌝ }
 {
     let letter_end = writer::put_byte(text, at, b'R');
     let number_end = writer::put_field(text, letter_end, number);

@@ -2,22 +2,32 @@
 -- Assumes nothing.
 use mathlib.Core.List.{List, [], _∷_, _++_}
 use Prim.Native.Nat.{ℕ, suc}
+use lib.ListN.{drop}
+use Rattle.text.specs.Text.{until, beyond}
 use Rattle.frame.specs.Sheet.{Sheet}
 use Rattle.frame.specs.Run.{State, start, step}
 use Rattle.frame.specs.Demands.{Figures, figures}
 use Rattle.plan_lines.specs.Lines.{planLine, jobLine}
 use Rattle.names.specs.Name.{nameOf}
 
+-- "part under m bytes (text: under 4,096) | 9"
+abbrev pub textLeast : ℕ
+textLeast = 4096
+
+-- What stands behind the first byte 9 of the line that starts at place p: the name, where it is a J line.
+abbrev pub secondField : List ℕ → ℕ → List ℕ
+secondField t p = beyond 9 (until 10 (drop p t))
+
 -- "for each job a Q line (name, level, then time, energy and temperature after the job)": the jobs from job i on, in the exact run
 -- from the state a.
-unfoldable pub jobLines : (ℕ → List ℕ) → Sheet → ℕ → State → List ℕ → List ℕ
-jobLines name s i a [] = []
-jobLines name s i a (j ∷ js) =
+unfoldable pub jobTextFrom : (ℕ → List ℕ) → Sheet → ℕ → State → List ℕ → List ℕ
+jobTextFrom name s i a [] = []
+jobTextFrom name s i a (j ∷ js) =
     let b : State = step s a j in
-    jobLine (name i) j b.time b.energy b.temperature ++ jobLines name s (suc i) b js
+    jobLine (name i) j b.time b.energy b.temperature ++ jobTextFrom name s (suc i) b js
 
 -- "a P line (m, time, energy, final temperature)", and then the Q lines; the names are those of the sheet's text t.
 unfoldable pub planText : List ℕ → Sheet → List ℕ → List ℕ
 planText t s js =
     let k : Figures = figures s (start s) js in
-    planLine s.jobs (k .time) (k .energy) (k .temperature) ++ jobLines (nameOf t) s 0 (start s) js
+    planLine s.jobs (k .time) (k .energy) (k .temperature) ++ jobTextFrom (nameOf t) s 0 (start s) js

@@ -1,24 +1,24 @@
-ghost use mathlib.Core.Path.{_≡_};
-ghost use Prim.Native.Nat.{ℕ, _+_, _*_, _≤_, _<_, _^_};
-ghost use lib.ListN.{length, getD, take, drop};
-ghost use Rattle.text.specs.Text.{until, beyond};
+ghost use Prim.Native.Nat.{_+_, _*_, _≤_};
+ghost use lib.ListN.{length, take};
 ghost use Rattle.frame.specs.Run.{start};
-ghost use Rattle.sheet.specs.Reading.{sheetOf};
-ghost use Rattle.sheet.specs.Frame.{frameOf};
-ghost use Rattle.sheet.specs.declared.Refusal.the-variants.{Nothing};
+ghost use Rattle.store.specs.Figures.{sheetOf};
 ghost use Rattle.names.specs.Name.{nameOf};
 ghost use Rattle.writer.specs.Written.{Wrote};
-ghost use Rattle.plan_lines.specs.Lines.{jobLine};
-ghost use Rattle.plan_text.specs.Text.{jobLines, planText};
+ghost use Rattle.plan_lines.specs.Lines.{jobLine, jobLineMax};
+ghost use Rattle.plan_text.specs.Text.{textLeast, secondField, jobTextFrom, planText};
+ghost use Rattle.plan_text.specs.Handed.{Ended, Handed};
 use run::Run;
-use sheet::Reading;
+use store::Head;
+use store::STORE_SIZE;
+
+// "part under m bytes (text: under 4,096)" is refused: no plan's text is longer.
+pub const TEXT_LEAST: usize = 4_096;
 
 // Writes the Q line of a job that ends in `run`; its J line starts at `p`.
 fn put_job(s: &[u8], p: usize, text: &mut [u8], at: usize, run: Run) -> usize
-    requires { ⌜ (p ≤ length (now s)) × (length (beyond 9 (until 10 (drop p (now s)))) ≤ 16) × (at + 63 ≤ length (now text)) ⌝ }
-    requires { ⌜ (run .time < 10 ^ 10) × (run .energy < 10 ^ 10) × (run .temperature < 10 ^ 10) ⌝ }
-    ensures { λ r. ⌜ Wrote (now (text .entry)) at (jobLine (beyond 9 (until 10 (drop p (now (s .entry))))) (run .level) (run .time) (run .energy) (run .temperature)) (now (text .exit)) r ⌝ }
-    ensures { λ r. ⌜ r ≤ at + 63 ⌝ }
+    requires { ⌜ Ended (now s) p (now text) at run ⌝ }
+    ensures { λ r. ⌜ Wrote (now (text .entry)) at (jobLine (secondField (now (s .entry)) p) (run .level) (run .time) (run .energy) (run .temperature)) (now (text .exit)) r ⌝ }
+    ensures { λ r. ⌜ r ≤ at + jobLineMax ⌝ }
 {
     let level = run.level as u64;
     let time = run.time;
@@ -31,57 +31,52 @@ fn put_job(s: &[u8], p: usize, text: &mut [u8], at: usize, run: Run) -> usize
 // Writes the Q lines of a list of levels from `at` on.
 fn put_jobs(
     s: &[u8],
-    r: Reading,
-    figures: &[u32; 1672],
+    head: Head,
+    store: &[u32; STORE_SIZE],
     levels: &[u8],
     text: &mut [u8],
     at: usize,
 ) -> usize
-    requires { ⌜ now figures ≡ r .figures ⌝ }
-    requires { ⌜ (r ≡ sheetOf (now s)) × (r .refusal ≡ Nothing) ⌝ }
-    requires { ⌜ (r .jobs ≤ length (now levels)) × ((i : ℕ) → i < r .jobs → getD (now levels) i 0 < 8) × (at + r .jobs * 63 ≤ length (now text)) ⌝ }
-    ensures { λ q. ⌜ Wrote (now (text .entry)) at (jobLines (nameOf (now (s .entry))) (frameOf r) 0 (start (frameOf r)) (take (r .jobs) (now (levels .entry)))) (now (text .exit)) q ⌝ }
-    ensures { λ q. ⌜ q ≤ at + r .jobs * 63 ⌝ }
+    requires { ⌜ record { handed : Handed (now s) head (now store) (now levels); room : at + head .jobs * jobLineMax ≤ length (now text) } ⌝ }
+    ensures { λ q. ⌜ Wrote (now (text .entry)) at (jobTextFrom (nameOf (now (s .entry))) (sheetOf head (now (store .entry))) 0 (start (sheetOf head (now (store .entry)))) (take (head .jobs) (now (levels .entry)))) (now (text .exit)) q ⌝ }
+    ensures { λ q. ⌜ q ≤ at + head .jobs * jobLineMax ⌝ }
 {
-    let states = step::steady_states(figures, r.resistance);
+    let states = step::steady_states(store, head.resistance);
     let steady = states.levels;
-    let l = r.levels as usize;
-    let mut run = Run::start(r.start_level, r.start_temperature as u64);
-    let mut p = names::skip_lines(s, 0, 2 + l + l * l);
+    let l = head.levels as usize;
+    let mut run = step::start_of(head);
+    let mut p = names::skip_lines(s, 0, names::lines_before(l, 0));
     let mut q = at;
     let mut i: usize = 0;
-    while i < r.jobs as usize {
-        run = step::next_job(run, figures, &steady, levels[i] as u32);
+    while i < head.jobs as usize {
+        run = step::next_job(run, store, &steady, levels[i] as u32);
         q = put_job(s, p, text, q, run);
-        p = names::skip_lines(s, p, l + 1);
+        p = names::skip_lines(s, p, names::job_lines(l));
         i += 1;
     }
     q
 }
 
-// Writes the text of a list of levels: the P line of its figures, and a Q line for each job. The reading's figures are lent beside
-// it, as for the planner.
+// Writes the text of a list of levels on a sheet that was read: the P line of its figures, and a Q line for each job.
 pub fn put_plan(
     s: &[u8],
-    r: Reading,
-    figures: &[u32; 1672],
+    head: Head,
+    store: &[u32; STORE_SIZE],
     levels: &[u8],
     text: &mut [u8],
 ) -> usize
-    requires { ⌜ now figures ≡ r .figures ⌝ }
-    requires { ⌜ (r ≡ sheetOf (now s)) × (r .refusal ≡ Nothing) ⌝ }
-    requires { ⌜ (r .jobs ≤ length (now levels)) × ((i : ℕ) → i < r .jobs → getD (now levels) i 0 < 8) × (4096 ≤ length (now text)) ⌝ }
-    ensures { λ q. ⌜ Wrote (now (text .entry)) 0 (planText (now (s .entry)) (frameOf r) (take (r .jobs) (now (levels .entry)))) (now (text .exit)) q ⌝ }
-    ensures { λ q. ⌜ q ≤ 4096 ⌝ }
+    requires { ⌜ record { handed : Handed (now s) head (now store) (now levels); room : textLeast ≤ length (now text) } ⌝ }
+    ensures { λ q. ⌜ Wrote (now (text .entry)) 0 (planText (now (s .entry)) (sheetOf head (now (store .entry))) (take (head .jobs) (now (levels .entry)))) (now (text .exit)) q ⌝ }
+    ensures { λ q. ⌜ q ≤ textLeast ⌝ }
 {
-    let m = r.jobs as u64;
-    let states = step::steady_states(figures, r.resistance);
+    let m = head.jobs as usize;
+    let states = step::steady_states(store, head.resistance);
     let steady = states.levels;
-    let first = Run::start(r.start_level, r.start_temperature as u64);
-    let run = step::run_levels(first, figures, &steady, levels, m as usize);
-    let time = run.time;
-    let energy = run.energy;
-    let temperature = run.temperature;
-    let at = plan_lines::put_plan_line(text, 0, m, time, energy, temperature);
-    put_jobs(s, r, figures, levels, text, at)
+    let first = step::start_of(head);
+    let last = step::run_levels(first, store, &steady, levels, m);
+    let time = last.time;
+    let energy = last.energy;
+    let temperature = last.temperature;
+    let at = plan_lines::put_plan_line(text, 0, m as u64, time, energy, temperature);
+    put_jobs(s, head, store, levels, text, at)
 }

@@ -16,13 +16,16 @@ use Rattle.frame.specs.Demands.{Outcome, planned, noPlan, Figures, figures}
 use Rattle.frame.specs.Plan.{frameOutcome}
 use Rattle.frame.specs.Table.{need}
 use Rattle.frame.proofs.Demand3.{frame-demand2, frame-demand3}
-use Rattle.sheet.specs.declared.Refusal.{Refusal}
-use Rattle.sheet.specs.Reading.{numberOf, lineOf, fieldOf, accepted, sheetOf}
-use Rattle.sheet.specs.Frame.{frameOf}
-use Rattle.sheet.proofs.Apart.{accepted-refused}
+use Rattle.refusal.specs.declared.Refusal.{Refusal}
+use Rattle.refusal.specs.Code.{numberOf, lineOf, fieldOf, accepted}
+use Rattle.refusal.proofs.Apart.{accepted-refused}
+use Rattle.sheet.specs.Reading.{readingOf, sheetIn}
+use Rattle.table.specs.Table.{wordsMax}
 use Rattle.sheet.proofs.Ranges.{read-ranges}
-use Rattle.planner.specs.declared.Reply.{Reply}
-use Rattle.planner.specs.Answer.{refused, found, answerFor, turnedAway, answerTo, answerOf, refusedAs, plannedAs, Answers}
+use Rattle.reply.specs.declared.Reply.{Reply}
+use Rattle.reply.specs.Answer.{refused, found, refusedReply, plannedAs, Answers}
+use Rattle.reply.proofs.Peak.{peak-between}
+use Rattle.planner.specs.Order.{frameFound, answerFor, turnedAway, answerTo, answerOf}
 use Rattle.planner.specs.Demands.{Enough, planIn, Fixed, Demand3, Demands}
 
 module _ {s : Sheet} {words bytes : ℕ} {part : List ℕ} {r : Reply} where
@@ -39,7 +42,7 @@ module _ {s : Sheet} {words bytes : ℕ} {part : List ℕ} {r : Reply} where
         no-plan = λ e. absurd (omega arith);
       }
 
-  on-seven : 4194304 < need s → r ≡ refusedAs 7 0 0 → Demand3 s words bytes part r
+  on-seven : wordsMax < need s → r ≡ refusedReply 7 0 0 → Demand3 s words bytes part r
   on-seven h z =
       let e = ap (λ (q : Reply). q .refusal) z in
       refused-only
@@ -56,7 +59,7 @@ module _ {s : Sheet} {words bytes : ℕ} {part : List ℕ} {r : Reply} where
       })
       (omega arith) (omega arith)
 
-  on-eight : need s ≤ 4194304 → words < need s → r ≡ refusedAs 8 0 0 → Demand3 s words bytes part r
+  on-eight : need s ≤ wordsMax → words < need s → r ≡ refusedReply 8 0 0 → Demand3 s words bytes part r
   on-eight g h z =
       let e = ap (λ (q : Reply). q .refusal) z in
       refused-only
@@ -73,7 +76,7 @@ module _ {s : Sheet} {words bytes : ℕ} {part : List ℕ} {r : Reply} where
       })
       (omega arith) (omega arith)
 
-  on-nine : need s ≤ 4194304 → need s ≤ words → bytes < s.jobs → r ≡ refusedAs 9 0 0 → Demand3 s words bytes part r
+  on-nine : need s ≤ wordsMax → need s ≤ words → bytes < s.jobs → r ≡ refusedReply 9 0 0 → Demand3 s words bytes part r
   on-nine f g h z =
       let e = ap (λ (q : Reply). q .refusal) z in
       refused-only
@@ -121,7 +124,7 @@ module _ {s : Sheet} {words bytes : ℕ} {part : List ℕ} {r : Reply} where
         }
 
     on-none : ((js : List ℕ) → ¬ frame.Keeps s s.deadline s.jobs (start s) js) → ((js : List ℕ) → ¬ frame.Tight s (tightened s) s.jobs (start s) js) →
-        r ≡ refusedAs 10 0 0 → Demand3 s words bytes part r
+        r ≡ refusedReply 10 0 0 → Demand3 s words bytes part r
     on-none b d z =
         let e = ap (λ (q : Reply). q .refusal) z in
         record {
@@ -147,33 +150,33 @@ module _ {s : Sheet} {words bytes : ℕ} {part : List ℕ} {r : Reply} where
 -- ---- the answer's own cases
 
 on-found : (s : Sheet) (o : Outcome) (n : ℕ) (words words' bytes bytes' : List ℕ) (r : Reply) → Enough s n (length bytes) →
-    frame.Demand2 s s.jobs (start s) o → frame.Demand3 s (tightened s) s.jobs (start s) o → Answers (found s o) words words' bytes bytes' r →
+    frame.OutcomeDemand2 s s.jobs (start s) o → frame.OutcomeDemand3 s (tightened s) s.jobs (start s) o → Answers (found s s.jobs (start s) o) words words' bytes bytes' r →
     Demand3 s n (length bytes) bytes' r
 on-found s (planned js) n words words' bytes bytes' r w b d a =
     on-plan w js b d (ap (take s.jobs) (a .part) ∙ take-at js (drop s.jobs bytes) s.jobs (b .keeps .levels .size))
-    (a .reply) (a .peak)
+    (a .reply) (peak-between s s.jobs (start s) js words words' bytes bytes' r a)
 on-found s noPlan n words words' bytes bytes' r w b d a = on-none w b d (a .reply)
 
 on-passed : (s : Sheet) → Ranges s → (n : ℕ) (words words' bytes bytes' : List ℕ) (r : Reply) →
     Answers (answerFor s n (length bytes)) words words' bytes bytes' r → Demand3 s n (length bytes) bytes' r
 unfolding answerFor
 on-passed s ok n words words' bytes bytes' r a =
-    elim (decLt 4194304 (need s)) [
+    elim (decLt wordsMax (need s)) [
       | yes h ↦
-          let b : Answers (refused 7 0 0) words words' bytes bytes' r = rw (lt-ltb 4194304 (need s) h) at a in
+          let b : Answers (refused 7 0 0) words words' bytes bytes' r = rw (lt-ltb wordsMax (need s) h) at a in
           on-seven h (b .reply)
       | no h ↦
           elim (decLt n (need s)) [
             | yes k ↦
-                let b : Answers (refused 8 0 0) words words' bytes bytes' r = rw (le-ltb 4194304 (need s) (omega arith), lt-ltb n (need s) k) at a in
+                let b : Answers (refused 8 0 0) words words' bytes bytes' r = rw (le-ltb wordsMax (need s) (omega arith), lt-ltb n (need s) k) at a in
                 on-eight (omega arith) k (b .reply)
             | no k ↦
                 elim (decLt (length bytes) s.jobs) [
                   | yes l ↦
-                      let b : Answers (refused 9 0 0) words words' bytes bytes' r = rw (le-ltb 4194304 (need s) (omega arith), le-ltb n (need s) (omega arith), lt-ltb (length bytes) s.jobs l) at a in
+                      let b : Answers (refused 9 0 0) words words' bytes bytes' r = rw (le-ltb wordsMax (need s) (omega arith), le-ltb n (need s) (omega arith), lt-ltb (length bytes) s.jobs l) at a in
                       on-nine (omega arith) (omega arith) l (b .reply)
                   | no l ↦
-                      let b : Answers (found s (frameOutcome s)) words words' bytes bytes' r = rw (le-ltb 4194304 (need s) (omega arith), le-ltb n (need s) (omega arith), le-ltb (length bytes) s.jobs (omega arith)) at a in
+                      let b : Answers (frameFound s) words words' bytes bytes' r = rw (le-ltb wordsMax (need s) (omega arith), le-ltb n (need s) (omega arith), le-ltb (length bytes) s.jobs (omega arith)) at a in
                       on-found s (frameOutcome s) n words words' bytes bytes' r (omega arith) (frame-demand2 s ok) (frame-demand3 s ok) b
                 ]
           ]
@@ -187,9 +190,9 @@ unfolding answerTo answerOf
 demands-hold sheet words words' bytes bytes' r a =
     record {
       fails = λ h.
-          let b : Answers (refused (numberOf ((sheetOf sheet) .refusal)) (lineOf ((sheetOf sheet) .refusal)) (fieldOf ((sheetOf sheet) .refusal))) words words' bytes bytes' r = rw (accepted-refused ((sheetOf sheet) .refusal) turnedAway _ h) at a in
+          let b : Answers (refused (numberOf ((readingOf sheet) .refusal)) (lineOf ((readingOf sheet) .refusal)) (fieldOf ((readingOf sheet) .refusal))) words words' bytes bytes' r = rw (accepted-refused ((readingOf sheet) .refusal) turnedAway _ h) at a in
           b .reply;
       passes = λ e.
-          on-passed (frameOf (sheetOf sheet)) (read-ranges sheet e) (length words) words words' bytes bytes' r
-          (rw (ap (λ (f : Refusal). accepted f turnedAway (answerFor (frameOf (sheetOf sheet)) (length words) (length bytes))) e) at a);
+          on-passed (sheetIn sheet) (read-ranges sheet e) (length words) words words' bytes bytes' r
+          (rw (ap (λ (f : Refusal). accepted f turnedAway (answerFor (sheetIn sheet) (length words) (length bytes))) e) at a);
     }

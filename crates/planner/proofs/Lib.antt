@@ -1,4 +1,5 @@
+pub mod Axes
+pub mod Order
 pub mod Demands
-pub mod Replies
 pub mod Ways
 pub mod Need

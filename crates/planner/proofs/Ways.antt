@@ -17,13 +17,16 @@ use Rattle.frame.specs.Plan.{frameOutcome}
 use Rattle.frame.specs.Table.{need}
 use Rattle.frame.proofs.Run.{meets-peak}
 use Rattle.frame.proofs.Demand3.{frame-demand3}
-use Rattle.sheet.specs.declared.Refusal.the-variants.{Nothing}
-use Rattle.sheet.specs.Reading.{numberOf, sheetOf}
-use Rattle.sheet.specs.Frame.{frameOf}
-use Rattle.sheet.proofs.Apart.{cond-cases, accepted-ways}
+use Rattle.refusal.specs.declared.Refusal.the-variants.{Nothing}
+use Rattle.refusal.specs.Code.{numberOf}
+use Rattle.refusal.proofs.Apart.{accepted-ways}
+use Rattle.fields.proofs.Within.{cond-cases}
+use Rattle.sheet.specs.Reading.{readingOf, sheetIn}
+use Rattle.table.specs.Table.{wordsMax}
 use Rattle.sheet.proofs.Ranges.{read-ranges}
-use Rattle.planner.specs.declared.Reply.{Reply}
-use Rattle.planner.specs.Answer.{Answer, refused, found, answerFor, turnedAway, answerTo, answerOf, replyOf, PeakOf, tableOf, partOf, Answers}
+use Rattle.reply.specs.declared.Reply.{Reply}
+use Rattle.reply.specs.Answer.{Answer, refused, found, replyOf, PeakOf, tableAfter, partAfter, Answers}
+use Rattle.planner.specs.Order.{frameFound, answerFor, turnedAway, answerTo, answerOf}
 use Rattle.planner.specs.Demands.{Demands}
 use Rattle.planner.proofs.Demands.{demands-hold}
 
@@ -32,45 +35,45 @@ module _ (P : Answer → Type 0) where
   either b x y h k = cond-cases P b x y (λ e. h) (λ e. k)
 
   module _ (late : (n : ℕ) → 7 ≤ n → n ≤ 8 → P (refused n 0 0)) where
-    frame-ways : (s : Sheet) (words bytes : ℕ) → (bytes < s.jobs → P (refused 9 0 0)) → P (found s (frameOutcome s)) → P (answerFor s words bytes)
+    frame-ways : (s : Sheet) (words bytes : ℕ) → (bytes < s.jobs → P (refused 9 0 0)) → P (frameFound s) → P (answerFor s words bytes)
     unfolding answerFor
     frame-ways s words bytes nine h =
-        either (ltb 4194304 (need s)) _ _ (late 7 (omega arith) (omega arith))
+        either (ltb wordsMax (need s)) _ _ (late 7 (omega arith) (omega arith))
         (either (ltb words (need s)) _ _ (late 8 (omega arith) (omega arith))
         (cond-cases P (ltb bytes s.jobs) _ _ (λ e. nine (ltb-true bytes s.jobs e)) (λ e. h)))
 
     pub answer-ways : (t : List ℕ) (words bytes : ℕ) →
-        (let f = (sheetOf t) .refusal in 1 ≤ numberOf f → numberOf f ≤ 6 → P (turnedAway f)) →
-        ((sheetOf t) .refusal ≡ Nothing → bytes < (frameOf (sheetOf t)) .jobs → P (refused 9 0 0)) →
-        ((sheetOf t) .refusal ≡ Nothing → P (found (frameOf (sheetOf t)) (frameOutcome (frameOf (sheetOf t))))) → P (answerOf t words bytes)
+        (let f = (readingOf t) .refusal in 1 ≤ numberOf f → numberOf f ≤ 6 → P (turnedAway f)) →
+        ((readingOf t) .refusal ≡ Nothing → bytes < (sheetIn t) .jobs → P (refused 9 0 0)) →
+        ((readingOf t) .refusal ≡ Nothing → P (frameFound (sheetIn t))) → P (answerOf t words bytes)
     unfolding answerTo answerOf
-    answer-ways t words bytes a nine h = accepted-ways P ((sheetOf t) .refusal) turnedAway _ a (λ e. frame-ways (frameOf (sheetOf t)) words bytes (nine e) (h e))
+    answer-ways t words bytes a nine h = accepted-ways P ((readingOf t) .refusal) turnedAway _ a (λ e. frame-ways (sheetIn t) words bytes (nine e) (h e))
 
 -- ---- the answer's own reply, with the peak of the plan's run
 
 abbrev pub peakOf : Answer → ℕ
 peakOf (refused number line field) = 0
-peakOf (found s (planned js)) = (exactRun s (start s) js) .peak
-peakOf (found s noPlan) = 0
+peakOf (found s n a (planned js)) = (exactRun s a js) .peak
+peakOf (found s n a noPlan) = 0
 
 abbrev pub replyTo : Answer → Reply
 replyTo a = replyOf a (peakOf a)
 
-peak-found : (s : Sheet) (o : Outcome) → frame.Demand3 s (tightened s) s.jobs (start s) o → PeakOf (found s o) (peakOf (found s o))
+peak-found : (s : Sheet) (o : Outcome) → frame.OutcomeDemand3 s (tightened s) s.jobs (start s) o → PeakOf (found s s.jobs (start s) o) (peakOf (found s s.jobs (start s) o))
 peak-found s (planned js) w = record { low = omega arith; high = meets-peak s _ _ js (start s) (omega arith) (w .meets) }
 peak-found s noPlan w = tt
 
-answers-itself : (a : Answer) (words bytes : List ℕ) → PeakOf a (peakOf a) → Answers a words (tableOf a words) bytes (partOf a bytes) (replyTo a)
+answers-itself : (a : Answer) (words bytes : List ℕ) → PeakOf a (peakOf a) → Answers a words (tableAfter a words) bytes (partAfter a bytes) (replyTo a)
 answers-itself (refused number line field) words bytes h = record { reply = refl; table = refl; part = refl; peak = h }
-answers-itself (found s (planned js)) words bytes h = record { reply = refl; table = refl; part = refl; peak = h }
-answers-itself (found s noPlan) words bytes h = record { reply = refl; table = refl; part = refl; peak = h }
+answers-itself (found s n a (planned js)) words bytes h = record { reply = refl; table = refl; part = refl; peak = h }
+answers-itself (found s n a noPlan) words bytes h = record { reply = refl; table = refl; part = refl; peak = h }
 
 -- The demands hold of the answer itself, with any table and any part lent.
 pub answer-demands : (t words bytes : List ℕ) → let a = answerOf t (length words) (length bytes) in
-    Demands t (length words) (length bytes) (partOf a bytes) (replyTo a)
+    Demands t (length words) (length bytes) (partAfter a bytes) (replyTo a)
 answer-demands t words bytes =
     let a = answerOf t (length words) (length bytes) in
-    demands-hold t words (tableOf a words) bytes (partOf a bytes) (replyTo a)
+    demands-hold t words (tableAfter a words) bytes (partAfter a bytes) (replyTo a)
     (answers-itself a words bytes
     (answer-ways (λ x. PeakOf x (peakOf x)) (λ n l h. tt) t (length words) (length bytes) (λ l h. tt) (λ e h. tt)
-    (λ e. let s = frameOf (sheetOf t) in peak-found s (frameOutcome s) (frame-demand3 s (read-ranges t e)))))
+    (λ e. let s = sheetIn t in peak-found s (frameOutcome s) (frame-demand3 s (read-ranges t e)))))

@@ -1,5 +1,5 @@
 -- The demands of the request on the planner's reply and on the list that the part holds, in words. What the table and the part
--- hold besides is said by the equations of `specs/Answer.antt`, from which these words follow: `proofs/Demands.antt`.
+-- hold besides is said by the equations of `reply`, from which these words follow: `proofs/Demands.antt`.
 -- Assumes nothing.
 use mathlib.Core.Logic.{_↔_}
 use mathlib.Core.Path.{_≡_}
@@ -11,15 +11,16 @@ use Rattle.frame.specs.Run.{start, exact, exactRun}
 use Rattle.frame.specs.Limits.{Meets, limits, tightened}
 use Rattle.frame.specs.Demands.{LevelList, Keeps, Best, Tight, endTime, figures}
 use Rattle.frame.specs.Table.{need}
-use Rattle.sheet.specs.declared.Refusal.the-variants.{Nothing}
-use Rattle.sheet.specs.Reading.{numberOf, lineOf, fieldOf, sheetOf}
-use Rattle.sheet.specs.Frame.{frameOf}
-use Rattle.planner.specs.declared.Reply.{Reply}
-use Rattle.planner.specs.Answer.{refusedAs}
+use Rattle.refusal.specs.declared.Refusal.the-variants.{Nothing}
+use Rattle.refusal.specs.Code.{numberOf, lineOf, fieldOf}
+use Rattle.sheet.specs.Reading.{readingOf, sheetIn}
+use Rattle.table.specs.Table.{wordsMax}
+use Rattle.reply.specs.declared.Reply.{Reply}
+use Rattle.reply.specs.Answer.{refusedReply}
 
 -- None of 7, 8 and 9 applies: the table's size is allowed, and what is lent is enough.
 pub record Enough (s : Sheet) (words bytes : ℕ) : Type 0 where
-  pub size : need s ≤ 4194304
+  pub size : need s ≤ wordsMax
   pub table : need s ≤ words
   pub part : s.jobs ≤ bytes
 
@@ -38,9 +39,9 @@ planIn s part = take s.jobs part
 
 -- Demands 1 and 2 on a sheet that passes 1 to 6: each refusal "given under that refusal's condition and no other", and the plan.
 pub record Fixed (s : Sheet) (words bytes : ℕ) (part : List ℕ) (r : Reply) : Type 0 where
-  pub seven : (r .refusal ≡ 7) ↔ (4194304 < need s)
-  pub eight : (r .refusal ≡ 8) ↔ ((need s ≤ 4194304) × (words < need s))
-  pub nine : (r .refusal ≡ 9) ↔ ((need s ≤ 4194304) × (need s ≤ words) × (bytes < s.jobs))
+  pub seven : (r .refusal ≡ 7) ↔ (wordsMax < need s)
+  pub eight : (r .refusal ≡ 8) ↔ ((need s ≤ wordsMax) × (words < need s))
+  pub nine : (r .refusal ≡ 9) ↔ ((need s ≤ wordsMax) × (need s ≤ words) × (bytes < s.jobs))
   -- "Where no refusal tested before it applies, "no plan" is answered if there is no such list, and only then."
   pub ten : (r .refusal ≡ 10) ↔ (Enough s words bytes × ((js : List ℕ) → ¬ MeetsRounded s js))
   pub plan : (r .refusal ≡ 0) ↔ (Enough s words bytes × ((js : List ℕ) × MeetsRounded s js))
@@ -51,7 +52,7 @@ pub record Fixed (s : Sheet) (words bytes : ℕ) (part : List ℕ) (r : Reply) :
   pub peak : r .refusal ≡ 0 → Between ((exactRun s (start s) (planIn s part)) .peak) s.temperatureLimit (r .peak)
   -- a plan's reply holds "line 0, field 0", and "Every figure of a refused reply not named is 0"
   pub place : r .refusal ≡ 0 → (r .line ≡ 0) × (r .field ≡ 0)
-  pub zeros : ¬ (r .refusal ≡ 0) → r ≡ refusedAs (r .refusal) 0 0
+  pub zeros : ¬ (r .refusal ≡ 0) → r ≡ refusedReply (r .refusal) 0 0
 
 -- Demand 3, "For every sheet that passes checks 1 to 6 of document 01, .. and whatever table and part are lent".
 pub record Demand3 (s : Sheet) (words bytes : ℕ) (part : List ℕ) (r : Reply) : Type 0 where
@@ -70,5 +71,5 @@ pub record Demand3 (s : Sheet) (words bytes : ℕ) (part : List ℕ) (r : Reply)
 -- For every sequence of bytes offered as a sheet.
 pub record Demands (sheet : List ℕ) (words bytes : ℕ) (part : List ℕ) (r : Reply) : Type 0 where
   -- a sheet that fails one of checks 1 to 6 is refused for the first that it fails
-  pub fails : ¬ ((sheetOf sheet) .refusal ≡ Nothing) → let f = (sheetOf sheet) .refusal in r ≡ refusedAs (numberOf f) (lineOf f) (fieldOf f)
-  pub passes : (sheetOf sheet) .refusal ≡ Nothing → Demand3 (frameOf (sheetOf sheet)) words bytes part r
+  pub fails : ¬ ((readingOf sheet) .refusal ≡ Nothing) → let f = (readingOf sheet) .refusal in r ≡ refusedReply (numberOf f) (lineOf f) (fieldOf f)
+  pub passes : (readingOf sheet) .refusal ≡ Nothing → Demand3 (sheetIn sheet) words bytes part r

@@ -1,4 +1,4 @@
-pub mod Answer
-pub mod Inner
+pub mod Order
+pub mod Axes
 pub mod Demands
 pub mod Need

@@ -1,32 +1,19 @@
--- The words of one job, level by level: one more move, one more level's part, one more level's words, one more run of words.
+-- The words of one job, level by level: one more level's part, one more level's words, one more run of words.
 -- Assumes nothing.
 use mathlib.Core.Path.{_≡_, refl, sym, ap, ap₂, _∙_}
 use mathlib.Core.Logic.{_⊎_, inl, inr}
 use mathlib.Core.List.{List}
 use Prim.Native.Nat.{ℕ, zero, suc, _+_, _*_, _-_, _≤_, _<_, min}
-use native.Mathlib.Nat.{mul-le-mul, mul-le-mul-right, add-mul, one-mul}
-use native.Mathlib.Numerals.{add-one}
+use native.Mathlib.Nat.{add-mul, one-mul}
 use native.Mathlib.Omega.{arith}
 use native.Mathlib.Decide.{decLt}
-use lib.ListN.{getD}
-use borrow.Author.Tests.{lt-ltb, le-ltb}
-use Rattle.runs.specs.Runs.{settled, Runs}
-use Rattle.relax.specs.Levels.{partSize, Moving, Lows, relaxedAt, Parted, Levels}
-
--- ---- numbers and places
-
--- A level's words stand before the next level's.
-pub level-end : (p q cells : ℕ) → p < q → p * cells + cells ≤ q * cells
-level-end p q cells h =
-    let l : p + 1 ≤ q = omega arith in
-    omega (arith, mul-le-mul-right cells l, add-mul p 1 cells, one-mul cells)
-
--- A move's number is one of levels × levels, and these are at most 64.
-pub move-lt : (levels p j : ℕ) → p < levels → j < levels → p * levels + j < levels * levels
-move-lt levels p j h l = omega (arith, level-end p levels levels h)
-
-pub move-few : (levels p j : ℕ) → levels ≤ 8 → p < levels → j < levels → p * levels + j < 64
-move-few levels p j e h l = omega (arith, move-lt levels p j h l, mul-le-mul e e)
+use lib.ListN.{length, getD}
+use Rattle.word.specs.Word.{settled}
+use Rattle.spans.specs.Spans.{Spans}
+use Rattle.open_ways.specs.Moves.{Moving, Lows, relaxedAt}
+use Rattle.open_ways.proofs.Moves.{level-end, move-within, relaxed-on, relaxed-off}
+use Rattle.one_level.specs.Level.{partSize, Room, Job}
+use Rattle.relax.specs.Levels.{Parted, Levels}
 
 -- ---- a run of words
 
@@ -35,26 +22,11 @@ outside-part : (at n a m q : ℕ) → at ≤ a → a + m ≤ at + n → (q < at)
 outside-part at n a m q h l (inl z) = inl (omega arith)
 outside-part at n a m q h l (inr z) = inr (omega arith)
 
--- ---- one more move
+-- ---- a job's room
 
-module _ (shifts reaches times table : List ℕ) (levels cells at p : ℕ) where
-  abbrev least : ℕ → ℕ → ℕ
-  least = relaxedAt shifts reaches times table levels cells at p
-
-  -- A word for which the move is lawful, and one for which it is not.
-  pub relaxed-on : (k y : ℕ) → let u = p * levels + k in
-      y < getD reaches u 0 → least (suc k) y ≡ min (least k y) (getD times u 0 + getD table (at + k * cells + (y + getD shifts u 0)) 0)
-  unfolding relaxedAt
-  relaxed-on k y h = simp (lt-ltb _ _ h)
-
-  pub relaxed-off : (k y : ℕ) → getD reaches (p * levels + k) 0 ≤ y → least (suc k) y ≡ least k y
-  unfolding relaxedAt
-  relaxed-off k y h = simp (le-ltb _ _ h)
-
--- A move leads to a word of its level.
-pub move-within : {levels cells : ℕ} {shifts reaches times : List ℕ} → Moving levels cells shifts reaches times → (p j : ℕ) → p < levels → j < levels
-    → getD reaches (p * levels + j) 0 + getD shifts (p * levels + j) 0 ≤ cells
-move-within {levels} mv p j hp hj = mv .within (p * levels + j) (move-lt levels p j hp hj)
+-- A table and scratch of the same lengths have the same room.
+pub room-kept : {old new was is : List ℕ} {at levels cells : ℕ} → length new ≡ length old → length is ≡ length was → Room old was at levels cells → Room new is at levels cells
+room-kept e z r = record { few = r .few; inside = omega (arith, r .inside); small = r .small; parts = omega (arith, r .parts) }
 
 -- ---- one more level's part
 
@@ -62,7 +34,7 @@ move-within {levels} mv p j hp hj = mv .within (p * levels + j) (move-lt levels 
 pub parted-none : (part : List ℕ) (n : ℕ) (f : ℕ → ℕ → ℕ) → Parted part part 0 n f
 parted-none part n f = record { long = refl; inside = λ p q h l. absurd (omega arith) }
 
-pub parted-more : {old part new : List ℕ} {p n : ℕ} {f : ℕ → ℕ → ℕ} → n ≤ partSize → Parted old part p n f → Runs part new (p * partSize) n (f p) → Parted old new (p + 1) n f
+pub parted-more : {old part new : List ℕ} {p n : ℕ} {f : ℕ → ℕ → ℕ} → n ≤ partSize → Parted old part p n f → Spans part new (p * partSize) n (f p) → Parted old new (p + 1) n f
 parted-more {old} {part} {new} {p} {n} {f} h v w =
     record {
       long = w .long ∙ v .long;
@@ -83,7 +55,7 @@ levels-none table at levels cells lo hi f none =
     record { long = refl; inside = λ p y h l g. absurd (none p y h l g); level = λ p y h l g. refl; outside = λ q h. refl }
 
 module _ {old mid new : List ℕ} {at p cells x n : ℕ} {f : ℕ → ℕ → ℕ} {g : ℕ → ℕ} (room : x + n ≤ cells) (v : Levels old mid at p cells x (x + n) f)
-    (w : Runs mid new (at + p * cells + x) n g) where
+    (w : Spans mid new (at + p * cells + x) n g) where
   -- The words of the levels before stand before those of level p.
   before : (k y : ℕ) → k < p → y < cells → getD new (at + k * cells + y) 0 ≡ getD mid (at + k * cells + y) 0
   before k y h l = w .outside (at + k * cells + y) (inl (omega (arith, level-end k p cells h)))

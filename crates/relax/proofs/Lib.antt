@@ -1,2 +1,1 @@
 pub mod Leveling
-pub mod Opening

@@ -1,106 +1,15 @@
-ghost use mathlib.Core.Path.{_≡_};
-ghost use Prim.Native.Nat.{ℕ, _+_, _*_, _-_, _≤_, _<_, min};
-ghost use lib.ListN.{length, getD};
-ghost use Rattle.runs.specs.Runs.{settled, Runs};
-ghost use Rattle.relax.specs.Levels.{partSize, Moving, Lows, relaxedAt, Open, Scratch, Parted, Levels};
+ghost use Prim.Native.Nat.{ℕ, _+_, _*_, _-_};
+ghost use lib.ListN.{getD};
+ghost use Rattle.word.specs.Word.{settled};
+ghost use Rattle.open_ways.specs.Moves.{relaxedAt};
+ghost use Rattle.one_level.specs.Level.{partSize, Room, Job, Part};
+ghost use Rattle.relax.specs.Levels.{Scratch, Parted, Levels};
+use one_level::PART_SIZE;
+use one_level::relax_level;
+use spans::copy;
+use spans::fewest;
 
-// The words of a level that are worked on at once.
-const PART_SIZE: usize = 384;
-
-// How many ways are open to a span of words, and where it ends.
-struct Span {
-    count: usize,
-    to: usize,
-}
-
-// The lesser of two numbers.
-fn fewest(a: usize, b: usize) -> usize
-    ensures { λ r. ⌜ r ≡ min a b ⌝ }
-{
-    if a < b { a } else { b }
-}
-
-// Finds the ways that are open to the words from word y on, for the level p before. The span ends where the first of them does, so
-// that each is open to all of it.
-fn find_ways(
-    at: usize,
-    levels: usize,
-    cells: usize,
-    shifts: &[u32],
-    reaches: &[u32],
-    times: &[u32],
-    p: usize,
-    y: usize,
-    end: usize,
-    froms: &mut [usize],
-    costs: &mut [u32],
-) -> Span
-    requires { ⌜ Moving levels cells (now shifts) (now reaches) (now times) ⌝ }
-    requires { ⌜ (at + levels * cells ≤ 4194304) × (p < levels) × (y < end) × (end ≤ cells) ⌝ }
-    requires { ⌜ (8 ≤ length (now froms)) × (8 ≤ length (now costs)) ⌝ }
-    ensures { λ r. ⌜ Open (now (shifts .entry)) (now (reaches .entry)) (now (times .entry)) levels cells at p levels y end (r .count) (r .to) (now (froms .exit)) (now (costs .exit)) ⌝ }
-    ensures { λ r. ⌜ (length (now (froms .exit)) ≡ length (now (froms .entry))) × (length (now (costs .exit)) ≡ length (now (costs .entry))) ⌝ }
-{
-    let mut count: usize = 0;
-    let mut to = end;
-    let mut j: usize = 0;
-    while j < levels {
-        let u = p * levels + j;
-        let reach = reaches[u] as usize;
-        if y < reach {
-            froms[count] = at + j * cells + (y + shifts[u] as usize);
-            costs[count] = times[u];
-            count += 1;
-            to = fewest(to, reach);
-        }
-        j += 1;
-    }
-    Span { count, to }
-}
-
-// Works out n words, from word x on, for the level p before, into that level's part, span by span.
-fn relax_level(
-    table: &[u32],
-    part: &mut [u32],
-    at: usize,
-    levels: usize,
-    cells: usize,
-    shifts: &[u32],
-    reaches: &[u32],
-    times: &[u32],
-    p: usize,
-    x: usize,
-    n: usize,
-)
-    requires { ⌜ Moving levels cells (now shifts) (now reaches) (now times) ⌝ }
-    requires { ⌜ (at + levels * cells ≤ length (now table)) × (at + levels * cells ≤ 4194304) × (3072 ≤ length (now part)) ⌝ }
-    requires { ⌜ (p < levels) × (n ≤ partSize) × (x + n ≤ cells) × (Lows levels cells at x (now table)) ⌝ }
-    ensures { λ r. ⌜ Runs (now (part .entry)) (now (part .exit)) (p * partSize) n (λ (q : ℕ). settled (relaxedAt (now (shifts .entry)) (now (reaches .entry)) (now (times .entry)) (now (table .entry)) levels cells at p levels (x + q))) ⌝ }
-{
-    let mut froms = [0usize; 8];
-    let mut costs = [0u32; 8];
-    let mut y = x;
-    while y < x + n {
-        let s = find_ways(
-            at,
-            levels,
-            cells,
-            shifts,
-            reaches,
-            times,
-            p,
-            y,
-            x + n,
-            &mut froms,
-            &mut costs,
-        );
-        let place = p * PART_SIZE + (y - x);
-        ways::take_span(table, part, place, s.to - y, &froms, &costs, s.count);
-        y = s.to;
-    }
-}
-
-// The same for every level before.
+// Works out n words, from word x on, for every level before.
 fn relax_part(
     table: &[u32],
     part: &mut [u32],
@@ -113,9 +22,7 @@ fn relax_part(
     x: usize,
     n: usize,
 )
-    requires { ⌜ Moving levels cells (now shifts) (now reaches) (now times) ⌝ }
-    requires { ⌜ (at + levels * cells ≤ length (now table)) × (at + levels * cells ≤ 4194304) × (3072 ≤ length (now part)) ⌝ }
-    requires { ⌜ (n ≤ partSize) × (x + n ≤ cells) × (Lows levels cells at x (now table)) ⌝ }
+    requires { ⌜ (Job (now table) (now part) (now shifts) (now reaches) (now times) at levels cells x) × (Part cells x n) ⌝ }
     ensures { λ r. ⌜ Parted (now (part .entry)) (now (part .exit)) levels n (λ (p q : ℕ). settled (relaxedAt (now (shifts .entry)) (now (reaches .entry)) (now (times .entry)) (now (table .entry)) levels cells at p levels (x + q))) ⌝ }
 {
     let mut p: usize = 0;
@@ -147,13 +54,12 @@ fn copy_part(
     x: usize,
     n: usize,
 )
-    requires { ⌜ (at + levels * cells ≤ length (now table)) × (at + levels * cells ≤ 4194304) × (3072 ≤ length (now part)) ⌝ }
-    requires { ⌜ (levels ≤ 8) × (n ≤ partSize) × (x + n ≤ cells) ⌝ }
+    requires { ⌜ (Room (now table) (now part) at levels cells) × (Part cells x n) ⌝ }
     ensures { λ r. ⌜ Levels (now (table .entry)) (now (table .exit)) at levels cells x (x + n) (λ (p y : ℕ). getD (now (part .entry)) (p * partSize + (y - x)) 0) ⌝ }
 {
     let mut p: usize = 0;
     while p < levels {
-        runs::copy(table, at + p * cells + x, part, p * PART_SIZE, n);
+        copy(table, at + p * cells + x, part, p * PART_SIZE, n);
         p += 1;
     }
 }
@@ -170,8 +76,7 @@ pub fn relax_words(
     reaches: &[u32],
     times: &[u32],
 )
-    requires { ⌜ Moving levels cells (now shifts) (now reaches) (now times) ⌝ }
-    requires { ⌜ (at + levels * cells ≤ length (now table)) × (at + levels * cells ≤ 4194304) × (3072 ≤ length (now part)) × (Lows levels cells at 0 (now table)) ⌝ }
+    requires { ⌜ Job (now table) (now part) (now shifts) (now reaches) (now times) at levels cells 0 ⌝ }
     ensures { λ r. ⌜ Levels (now (table .entry)) (now (table .exit)) at levels cells 0 cells (λ (p y : ℕ). settled (relaxedAt (now (shifts .entry)) (now (reaches .entry)) (now (times .entry)) (now (table .entry)) levels cells at p levels y)) ⌝ }
     ensures { λ r. ⌜ Scratch (now (part .entry)) (now (part .exit)) ⌝ }
 {

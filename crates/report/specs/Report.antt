@@ -8,32 +8,34 @@ use lib.Dec.{ltb}
 use lib.ListN.{length, drop}
 use Rattle.frame.specs.Sheet.{Sheet}
 use Rattle.frame.specs.Demands.{Outcome, planned, noPlan}
-use Rattle.planner.specs.Answer.{Answer, refused, found, answerOf}
-use Rattle.plan_text.specs.Text.{planText}
+use Rattle.store.specs.Store.{jobsMax}
+use Rattle.reply.specs.Answer.{Answer, refused, found}
+use Rattle.planner.specs.Order.{answerOf}
+use Rattle.plan_text.specs.Text.{textLeast, planText}
 use Rattle.report.specs.declared.Report.{Report}
 
--- The planner's answer "with the table used there": "the table is 16,384 words inside the call". The levels stand in a part of 64
--- bytes inside the call, so 9 is the text's alone.
-unfoldable pub answerIn : List ℕ → Answer
-answerIn t = answerOf t 16384 64
+-- "the table is 16,384 words inside the call"
+abbrev pub tableWords : ℕ
+tableWords = 16384
 
--- "part under m bytes (text: under 4,096) | 9", tested after 8 and before 10.
-abbrev pub textLeast : ℕ
-textLeast = 4096
+-- The planner's answer "with the table used there". The levels stand in a part inside the call with a byte for every job, so 9 is the
+-- text's alone.
+unfoldable pub answerIn : List ℕ → Answer
+answerIn t = answerOf t tableWords jobsMax
 
 -- "Every figure of a refused reply not named is 0."
-abbrev pub refusedAs : ℕ → ℕ → ℕ → Report
-refusedAs number line field = record { refusal = number; line = line; field = field; length = 0 }
+abbrev pub refusedReport : ℕ → ℕ → ℕ → Report
+refusedReport number line field = record { refusal = number; line = line; field = field; length = 0 }
 
 -- What is found, for a part that is large enough.
 abbrev pub reportFound : List ℕ → Sheet → Outcome → Report
 reportFound t s (planned js) = record { refusal = 0; line = 0; field = 0; length = length (planText t s js) }
-reportFound t s noPlan = refusedAs 10 0 0
+reportFound t s noPlan = refusedReport 10 0 0
 
--- The report on a sheet with a part of so many bytes: the refusal, or the text's length.
+-- The report on a sheet with a part of so many bytes: the refusal, or the text's length. The part is tested after 8 and before 10.
 abbrev pub reportOf : List ℕ → ℕ → Answer → Report
-reportOf t room (refused number line field) = refusedAs number line field
-reportOf t room (found s o) = cond (ltb room textLeast) (refusedAs 9 0 0) (reportFound t s o)
+reportOf t room (refused number line field) = refusedReport number line field
+reportOf t room (found s n a o) = cond (ltb room textLeast) (refusedReport 9 0 0) (reportFound t s o)
 
 -- What is found, in the part: a plan's text at its start; "bytes beyond it stay".
 abbrev pub partFound : List ℕ → Sheet → Outcome → List ℕ → List ℕ
@@ -41,6 +43,6 @@ partFound t s (planned js) part = planText t s js ++ drop (length (planText t s 
 partFound t s noPlan part = part
 
 -- The part afterwards; a refusal leaves it.
-abbrev pub partOf : List ℕ → Answer → List ℕ → List ℕ
-partOf t (refused number line field) part = part
-partOf t (found s o) part = cond (ltb (length part) textLeast) part (partFound t s o part)
+abbrev pub textAfter : List ℕ → Answer → List ℕ → List ℕ
+textAfter t (refused number line field) part = part
+textAfter t (found s n a o) part = cond (ltb (length part) textLeast) part (partFound t s o part)

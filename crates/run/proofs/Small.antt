@@ -1,34 +1,42 @@
--- How large the figures of the exact run can be after k jobs, for a loop over the jobs: what `Run::after` rests on holds up to
--- 64 jobs.
+-- How large the figures of the exact run can be after k jobs: by induction over the jobs, as each adds a bounded amount to time and
+-- to energy and leaves no temperature above 20,000.
 -- Assumes nothing.
 use mathlib.Core.Path.{_≡_}
 use mathlib.Core.List.{List, [], _∷_}
-use Prim.Native.Nat.{ℕ, suc, _+_, _*_, _≤_}
+use Prim.Native.Nat.{ℕ, suc, _+_, _*_, _≤_, max}
 use native.Mathlib.Omega.{arith}
 use lib.ListN.{length}
 use Rattle.thermal.proofs.Thermal.{rule-max}
 use Rattle.frame.specs.Sheet.{Sheet, Ranges, steadyOf}
-use Rattle.frame.specs.Run.{State, start, change, job, step, exactRun}
-use Rattle.run.specs.Run.{stateOf, FiguresOf, Bounds}
-use Rattle.run.specs.declared.Run.{Run}
-use Rattle.run.specs.declared.Change.{Change}
-use Rattle.run.specs.declared.Job.{Job}
+use Rattle.frame.specs.Run.{State, fresh, start, change, job, step, exactRun}
 
--- After k jobs: a change and a job add at most 10,000,000 each to time and to energy, and no temperature passes 20,000.
-pub record Small (k : ℕ) (a : State) : Type 0 where
-  pub done : a.done ≡ k
-  pub time : a.time ≤ k * 20000000
-  pub energy : a.energy ≤ k * 20000000
+-- Most that a job adds to time and to energy: 10,000,000, and as much for the change before it.
+abbrev pub jobMost : ℕ
+jobMost = 20000000
+
+-- k jobs after the state `first`.
+pub record Grown (first : State) (k : ℕ) (a : State) : Type 0 where
+  pub done : a.done ≡ first.done + k
+  pub time : a.time ≤ first.time + k * jobMost
+  pub energy : a.energy ≤ first.energy + k * jobMost
   pub temperature : a.temperature ≤ 20000
-  pub peak : a.peak ≤ 20000
+  pub peak : a.peak ≤ max first.peak 20000
+
+-- k jobs after the start of a sheet.
+abbrev pub Small : ℕ → State → Type 0
+Small k a = Grown (fresh 0 0 0 0) k a
+
+-- No job after a state that is cool enough.
+pub grown-none : (a : State) → a.temperature ≤ 20000 → Grown a 0 a
+grown-none a h = omega (arith, h)
 
 module _ {s : Sheet} (r : Ranges s) where
   -- "Start with time 0, energy 0, the start temperature and the start level."
   pub small-start : Small 0 (start s)
-  small-start = omega arith
+  small-start = omega (arith, r .startTemperature)
 
   -- "A job at a level adds the job's time and energy there and those of the change from the level before."
-  pub small-step : {k : ℕ} {a : State} (j : ℕ) → Small k a → Small (suc k) (step s a j)
+  pub small-step : {first : State} {k : ℕ} {a : State} (j : ℕ) → Grown first k a → Grown first (suc k) (step s a j)
   unfolding step change job
   small-step {a = a} j w =
       omega (
@@ -41,12 +49,8 @@ module _ {s : Sheet} (r : Ranges s) where
         r .jobEnergy a.done j,
       )
 
-  -- The next of 64 jobs may rest on its bounds.
-  pub small-bounds : {k : ℕ} {a : Run} {level : ℕ} {c : Change} {b : Job} → k ≤ 64 → Small k (stateOf a) → FiguresOf s a level c b → Bounds a b
-  small-bounds {a = a} {level = level} h w f = omega (arith, r .steady level, r .decay a.done level)
-
   -- After a whole list.
-  pub small-run : (js : List ℕ) (k : ℕ) (a : State) → Small k a → Small (k + length js) (exactRun s a js)
+  pub small-run : {first : State} (js : List ℕ) (k : ℕ) (a : State) → Grown first k a → Grown first (k + length js) (exactRun s a js)
   small-run [] k a w = let z : k + 0 ≡ k = omega arith in rw z w
   small-run (j ∷ js) k a w =
       let z : k + suc (length js) ≡ suc k + length js = omega arith in

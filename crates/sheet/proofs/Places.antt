@@ -3,12 +3,14 @@
 use mathlib.Core.List.{List}
 use Prim.Native.Nat.{ℕ, _≤_}
 use native.Mathlib.Omega.{arith}
-use Rattle.sheet.specs.Reading.{lineOf, fieldOf, sheetOf}
+use Rattle.refusal.specs.Code.{lineOf, fieldOf}
+use Rattle.body.specs.Body.{endLine}
+use Rattle.sheet.specs.Reading.{readingOf}
 use Rattle.sheet.proofs.Whole.{sheet-cases}
 
--- A refused sheet's line is at most 651, its field at most 11.
-pub refusal-line : (t : List ℕ) → lineOf ((sheetOf t) .refusal) ≤ 651
-refusal-line t = sheet-cases t (λ r. lineOf (r .refusal) ≤ 651) (λ r h. h .line) (λ r w. rw (w .same) (omega arith))
+-- A refused sheet's line and its field have a bound.
+pub refusal-line : (t : List ℕ) → lineOf ((readingOf t) .refusal) ≤ endLine
+refusal-line t = sheet-cases t (λ r. lineOf (r .refusal) ≤ endLine) (λ r h. h .line) (λ r w. rw (w .same) (omega arith))
 
-pub refusal-field : (t : List ℕ) → fieldOf ((sheetOf t) .refusal) ≤ 11
+pub refusal-field : (t : List ℕ) → fieldOf ((readingOf t) .refusal) ≤ 11
 refusal-field t = sheet-cases t (λ r. fieldOf (r .refusal) ≤ 11) (λ r h. h .field) (λ r w. rw (w .same) (omega arith))

@@ -1,4 +1,1 @@
-pub mod Body
 pub mod Reading
-pub mod Frame
-pub mod Naming

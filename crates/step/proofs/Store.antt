@@ -1,6 +1,7 @@
--- The store's figures are the sheet's, and a step on a sheet in its ranges may rest on them.
+-- The store's figures are the sheet's, place by place, and so a step on a sheet in its ranges may rest on them; the steady-state
+-- temperatures, one level at a time, are those of the definition.
 -- Assumes nothing.
-use mathlib.Core.Path.{_≡_, refl, ap, sym, _∙_}
+use mathlib.Core.Path.{_≡_, refl, ap, _∙_}
 use mathlib.Core.List.{List}
 use Prim.Native.Nat.{ℕ, _+_, _*_, _≤_, _<_, _^_}
 use native.Mathlib.Omega.{arith}
@@ -11,13 +12,14 @@ use borrow.Author.Tests.{lt-ltb}
 use Rattle.thermal.specs.Thermal.{steadyState}
 use Rattle.frame.specs.Sheet.{Sheet, Ranges, steadyOf}
 use Rattle.frame.proofs.Tabulate.{getD-tabulate, tabulated}
+use Rattle.store.specs.declared.Head.{Head}
+use Rattle.store.specs.Store.{jobsMax, levelsMax, changesMax, worksMax, powers, changeTimes, changeEnergies, jobTimes, jobEnergies, decays}
+use Rattle.store.specs.Figures.{figureAt, sheetOf}
 use Rattle.run.specs.Run.{FiguresOf, Bounds}
 use Rattle.run.specs.declared.Run.{Run}
 use Rattle.run.specs.declared.Change.{Change}
 use Rattle.run.specs.declared.Job.{Job}
-use Rattle.sheet.specs.declared.Reading.{Reading}
-use Rattle.sheet.specs.Frame.{figureAt, frameOf}
-use Rattle.step.specs.Store.{steadies, Stored, Rests}
+use Rattle.step.specs.Store.{steadies, changeIn, jobIn, Stored, Rests}
 
 -- ---- a sheet that was read
 
@@ -26,38 +28,38 @@ figure-in : (st : List ℕ) (b n k : ℕ) → k < n → getD st (b + k) 0 ≡ fi
 unfolding figureAt
 figure-in st b n k h = rw (lt-ltb k n h) refl
 
-pub steady-in : (r : Reading) (j : ℕ) → j < 8 → steadyState (getD (r .figures) j 0) (r .resistance) ≡ steadyOf (frameOf r) j
-unfolding frameOf
-steady-in r j h =
-    let z : 0 + j ≡ j = omega arith in
-    ap (λ (p : ℕ). steadyState p (r .resistance)) (ap (λ (k : ℕ). getD (r .figures) k 0) (sym z) ∙ figure-in (r .figures) 0 8 j h)
+pub steady-in : (h : Head) (st : List ℕ) (j : ℕ) → j < levelsMax → steadyState (getD st (powers + j) 0) (h .resistance) ≡ steadyOf (sheetOf h st) j
+unfolding sheetOf
+steady-in h st j l = ap (λ (p : ℕ). steadyState p (h .resistance)) (figure-in st powers levelsMax j l)
 
-pub read-stored : (r : Reading) → Stored (frameOf r) (r .figures) (steadies (r .figures) (r .resistance))
-unfolding frameOf steadies
-read-stored r =
+pub read-stored : (h : Head) (st : List ℕ) → Stored (sheetOf h st) st (steadies st (h .resistance))
+unfolding sheetOf steadies
+read-stored h st =
     record {
-      change-time = λ p j hp hj. figure-in (r .figures) 8 64 (p * 8 + j) (omega arith);
-      change-energy = λ p j hp hj. figure-in (r .figures) 72 64 (p * 8 + j) (omega arith);
-      job-time = λ i j hi hj. figure-in (r .figures) 136 512 (i * 8 + j) (omega arith);
-      job-energy = λ i j hi hj. figure-in (r .figures) 648 512 (i * 8 + j) (omega arith);
-      decay = λ i j hi hj. figure-in (r .figures) 1160 512 (i * 8 + j) (omega arith);
+      change-time = λ p j hp hj. figure-in st changeTimes changesMax (p * levelsMax + j) (omega arith);
+      change-energy = λ p j hp hj. figure-in st changeEnergies changesMax (p * levelsMax + j) (omega arith);
+      job-time = λ i j hi hj. figure-in st jobTimes worksMax (i * levelsMax + j) (omega arith);
+      job-energy = λ i j hi hj. figure-in st jobEnergies worksMax (i * levelsMax + j) (omega arith);
+      decay = λ i j hi hj. figure-in st decays worksMax (i * levelsMax + j) (omega arith);
       steady = λ j hj.
           let z : 0 + j ≡ j = omega arith in
-          getD-tabulate (λ k. steadyState (getD (r .figures) k 0) (r .resistance)) 0 8 j hj ∙ ap (λ (k : ℕ). steadyState (getD (r .figures) k 0) (r .resistance)) z ∙ steady-in r j hj;
+          getD-tabulate (λ k. steadyState (getD st (powers + k) 0) (h .resistance)) 0 levelsMax j hj
+          ∙ ap (λ (k : ℕ). steadyState (getD st (powers + k) 0) (h .resistance)) z
+          ∙ steady-in h st j hj;
     }
 
 -- ---- the steady-state temperatures of the first n levels worked out
 
-pub record Worked (figures : List ℕ) (resistance : ℕ) (levels : List ℕ) (n : ℕ) : Type 0 where
-  pub most : n ≤ 8
-  pub long : length levels ≡ 8
-  pub within : (j : ℕ) → j < n → getD levels j 0 ≡ steadyState (getD figures j 0) resistance
+pub record Worked (store : List ℕ) (resistance : ℕ) (levels : List ℕ) (n : ℕ) : Type 0 where
+  pub most : n ≤ levelsMax
+  pub long : length levels ≡ levelsMax
+  pub within : (j : ℕ) → j < n → getD levels j 0 ≡ steadyState (getD store (powers + j) 0) resistance
 
-pub worked-none : (figures : List ℕ) (resistance : ℕ) → Worked figures resistance (replicate 8 0) 0
-worked-none figures resistance = record { most = omega arith; long = refl; within = λ j h. absurd (omega arith) }
+pub worked-none : (store : List ℕ) (resistance : ℕ) → Worked store resistance (replicate levelsMax 0) 0
+worked-none store resistance = record { most = omega arith; long = refl; within = λ j h. absurd (omega arith) }
 
-pub worked-more : {figures : List ℕ} {resistance : ℕ} {levels : List ℕ} {n : ℕ} (v : ℕ) → n < 8 → v ≡ steadyState (getD figures n 0) resistance →
-    Worked figures resistance levels n → Worked figures resistance (set levels n v) (n + 1)
+pub worked-more : {store : List ℕ} {resistance : ℕ} {levels : List ℕ} {n : ℕ} (v : ℕ) → n < levelsMax →
+    v ≡ steadyState (getD store (powers + n) 0) resistance → Worked store resistance levels n → Worked store resistance (set levels n v) (n + 1)
 worked-more {levels = levels} {n = n} v l e w =
     record {
       most = omega arith;
@@ -69,18 +71,16 @@ worked-more {levels = levels} {n = n} v l e w =
           ];
     }
 
-pub worked-all : {figures : List ℕ} {resistance : ℕ} {levels : List ℕ} {n : ℕ} → 8 ≤ n → Worked figures resistance levels n →
-    levels ≡ steadies figures resistance
+pub worked-all : {store : List ℕ} {resistance : ℕ} {levels : List ℕ} {n : ℕ} → levelsMax ≤ n → Worked store resistance levels n →
+    levels ≡ steadies store resistance
 unfolding steadies
-worked-all {figures} {resistance} {levels} l w = tabulated _ 8 levels (w .long) (λ i h. w .within i (omega arith))
+worked-all {levels = levels} l w = tabulated _ levelsMax levels (w .long) (λ i h. w .within i (omega arith))
 
 -- ---- a step
 
-module _ {s : Sheet} {figures steady : List ℕ} (h : Stored s figures steady) where
-  pub figures-of : (a : Run) (j : ℕ) (c : Change) (b : Job) → a.done < 64 → a.level < 8 → j < 8 →
-      c ≡ record { time = getD figures (8 + (a.level * 8 + j)) 0; energy = getD figures (72 + (a.level * 8 + j)) 0 } →
-      b ≡ record { time = getD figures (136 + (a.done * 8 + j)) 0; energy = getD figures (648 + (a.done * 8 + j)) 0; steady = getD steady j 0; decay = getD figures (1160 + (a.done * 8 + j)) 0 } →
-      FiguresOf s a j c b
+module _ {s : Sheet} {store steady : List ℕ} (h : Stored s store steady) where
+  pub figures-of : (a : Run) (j : ℕ) (c : Change) (b : Job) → a.done < jobsMax → a.level < levelsMax → j < levelsMax →
+      c ≡ changeIn store a.level j → b ≡ jobIn store steady a.done j → FiguresOf s a j c b
   figures-of a j c b hi hp hj p q =
       rw (p, q)
       (record {
@@ -92,8 +92,8 @@ module _ {s : Sheet} {figures steady : List ℕ} (h : Stored s figures steady) w
         decay = h .decay a.done j hi hj;
       })
 
-  pub rests : (a : Run) (j : ℕ) → Ranges s → a.done < 64 → a.level < 8 → j < 8 → a.time < 2 ^ 63 → a.energy < 2 ^ 63 → a.temperature ≤ 39998 →
-      Rests a figures steady j
+  pub rests : (a : Run) (j : ℕ) → Ranges s → a.done < jobsMax → a.level < levelsMax → j < levelsMax → a.time < 2 ^ 63 → a.energy < 2 ^ 63 →
+      a.temperature ≤ 39998 → Rests a store steady j
   rests a j r hi hp hj ht he hw =
       record {
         done = hi;
@@ -109,7 +109,5 @@ module _ {s : Sheet} {figures steady : List ℕ} (h : Stored s figures steady) w
             };
       }
 
-pub bounds : {a : Run} {figures states : List ℕ} {j : ℕ} (b : Job) → Rests a figures states j →
-    b ≡ record { time = getD figures (136 + (a.done * 8 + j)) 0; energy = getD figures (648 + (a.done * 8 + j)) 0; steady = getD states j 0; decay = getD figures (1160 + (a.done * 8 + j)) 0 } →
-    Bounds a b
+pub bounds : {a : Run} {store steady : List ℕ} {j : ℕ} (b : Job) → Rests a store steady j → b ≡ jobIn store steady a.done j → Bounds a b
 bounds b r q = rw q (omega (arith, r))

@@ -1,42 +1,71 @@
--- The figures of a sheet as the code of a step finds them: the reader's store (`lines`), and a list of the levels' steady-state
--- temperatures. What one step rests on.
+-- The figures of a sheet as the code of a step finds them: the store (`store`), and a list of the levels' steady-state temperatures.
+-- What one step rests on, and what a run of many.
 -- Assumes nothing.
 use mathlib.Core.Path.{_≡_}
 use mathlib.Core.List.{List}
-use Prim.Native.Nat.{ℕ, _+_, _*_, _<_, _^_}
+use Prim.Native.Nat.{ℕ, _+_, _*_, _≤_, _<_, _^_}
 use lib.ListN.{getD}
 use Rattle.thermal.specs.Thermal.{steadyState, RuleDomain}
 use Rattle.frame.specs.Sheet.{Sheet, Ranges, steadyOf}
-use Rattle.frame.specs.Run.{start}
 use Rattle.frame.specs.Table.{tabulate}
+use Rattle.store.specs.Store.{jobsMax, levelsMax, powers, changeTimes, changeEnergies, jobTimes, jobEnergies, decays}
 use Rattle.run.specs.declared.Run.{Run}
-use Rattle.run.specs.Run.{stateOf}
+use Rattle.run.specs.declared.Change.{Change}
+use Rattle.run.specs.declared.Job.{Job}
 
--- "The level's steady rise is P × R / 10,000 to the nearest whole number", for each of 8 levels.
+-- "deadline D (0 to 2,000,000,000), ration W (same range)"
+abbrev pub limitMax : ℕ
+limitMax = 2000000000
+
+-- "ceiling C (0 to 20,000)", and the steady rise "must be at most 20,000"
+abbrev pub temperatureMax : ℕ
+temperatureMax = 20000
+
+-- "The level's steady rise is P × R / 10,000 to the nearest whole number", for each level that there can be.
 unfoldable pub steadies : List ℕ → ℕ → List ℕ
-steadies figures resistance = tabulate (λ j. steadyState (getD figures j 0) resistance) 0 8
+steadies store resistance = tabulate (λ j. steadyState (getD store (powers + j) 0) resistance) 0 levelsMax
+
+-- What the store has of the change from level p to level j.
+abbrev pub changeIn : List ℕ → ℕ → ℕ → Change
+changeIn store p j =
+    record { time = getD store (changeTimes + (p * levelsMax + j)) 0; energy = getD store (changeEnergies + (p * levelsMax + j)) 0 }
+
+-- What the store and the list have of job i at level j.
+abbrev pub jobIn : List ℕ → List ℕ → ℕ → ℕ → Job
+jobIn store steady i j =
+    record {
+      time = getD store (jobTimes + (i * levelsMax + j)) 0;
+      energy = getD store (jobEnergies + (i * levelsMax + j)) 0;
+      steady = getD steady j 0;
+      decay = getD store (decays + (i * levelsMax + j)) 0;
+    }
 
 -- The store and the list hold the figures of the sheet.
-pub record Stored (s : Sheet) (figures states : List ℕ) : Type 0 where
-  pub change-time : (p j : ℕ) → p < 8 → j < 8 → getD figures (8 + (p * 8 + j)) 0 ≡ s.changeTime p j
-  pub change-energy : (p j : ℕ) → p < 8 → j < 8 → getD figures (72 + (p * 8 + j)) 0 ≡ s.changeEnergy p j
-  pub job-time : (i j : ℕ) → i < 64 → j < 8 → getD figures (136 + (i * 8 + j)) 0 ≡ s.jobTime i j
-  pub job-energy : (i j : ℕ) → i < 64 → j < 8 → getD figures (648 + (i * 8 + j)) 0 ≡ s.jobEnergy i j
-  pub decay : (i j : ℕ) → i < 64 → j < 8 → getD figures (1160 + (i * 8 + j)) 0 ≡ s.decay i j
-  pub steady : (j : ℕ) → j < 8 → getD states j 0 ≡ steadyOf s j
+pub record Stored (s : Sheet) (store states : List ℕ) : Type 0 where
+  pub change-time : (p j : ℕ) → p < levelsMax → j < levelsMax → getD store (changeTimes + (p * levelsMax + j)) 0 ≡ s.changeTime p j
+  pub change-energy : (p j : ℕ) → p < levelsMax → j < levelsMax → getD store (changeEnergies + (p * levelsMax + j)) 0 ≡ s.changeEnergy p j
+  pub job-time : (i j : ℕ) → i < jobsMax → j < levelsMax → getD store (jobTimes + (i * levelsMax + j)) 0 ≡ s.jobTime i j
+  pub job-energy : (i j : ℕ) → i < jobsMax → j < levelsMax → getD store (jobEnergies + (i * levelsMax + j)) 0 ≡ s.jobEnergy i j
+  pub decay : (i j : ℕ) → i < jobsMax → j < levelsMax → getD store (decays + (i * levelsMax + j)) 0 ≡ s.decay i j
+  pub steady : (j : ℕ) → j < levelsMax → getD states j 0 ≡ steadyOf s j
 
 -- What a step at level j may rest on: its places in the store, its sums in 64 bits, and the thermal rule.
-pub record Rests (a : Run) (figures steady : List ℕ) (j : ℕ) : Type 0 where
-  pub done : a.done < 64
-  pub level : a.level < 8
-  pub next : j < 8
+pub record Rests (a : Run) (store steady : List ℕ) (j : ℕ) : Type 0 where
+  pub done : a.done < jobsMax
+  pub level : a.level < levelsMax
+  pub next : j < levelsMax
   pub time : a.time < 2 ^ 63
   pub energy : a.energy < 2 ^ 63
-  pub rule : RuleDomain a.temperature (getD steady j 0) (getD figures (1160 + (a.done * 8 + j)) 0)
+  pub rule : RuleDomain a.temperature (getD steady j 0) (getD store (decays + (a.done * levelsMax + j)) 0)
 
--- The run is at the start of a sheet in its ranges, whose figures these are.
-pub record Started (a : Run) (figures steady : List ℕ) : Type 0 where
+-- What a run of n more jobs may rest on: they are jobs of a sheet in its ranges, whose figures these are, and the run so far is no
+-- larger than a sheet's limits can be.
+pub record Begun (a : Run) (store steady : List ℕ) (n : ℕ) : Type 0 where
   pub sheet : Sheet
   pub ranges : Ranges sheet
-  pub stored : Stored sheet figures steady
-  pub start : stateOf a ≡ start sheet
+  pub stored : Stored sheet store steady
+  pub done : a.done + n ≤ jobsMax
+  pub level : a.level < levelsMax
+  pub time : a.time ≤ limitMax
+  pub energy : a.energy ≤ limitMax
+  pub temperature : a.temperature ≤ temperatureMax

@@ -1,29 +1,41 @@
 ghost use mathlib.Core.Path.{_≡_};
-ghost use Prim.Native.Nat.{ℕ, _+_, _*_, _≤_, _<_};
+ghost use mathlib.Core.List.{List};
+ghost use Prim.Native.Nat.{ℕ, _+_, _≤_, _<_};
 ghost use lib.ListN.{length, getD, take};
 ghost use Rattle.thermal.specs.Thermal.{steadyState};
 ghost use Rattle.frame.specs.Sheet.{Sheet, Ranges};
 ghost use Rattle.frame.specs.Run.{start, step, exactRun};
+ghost use Rattle.store.specs.Store.{jobsMax, levelsMax, powers};
+ghost use Rattle.store.specs.Figures.{sheetOf};
 ghost use Rattle.run.specs.Run.{stateOf};
-ghost use Rattle.step.specs.Store.{steadies, Stored, Rests, Started};
+ghost use Rattle.step.specs.Store.{temperatureMax, steadies, changeIn, jobIn, Stored, Rests, Begun};
 use run::Change;
 use run::Job;
 use run::Run;
+use store::CHANGE_ENERGIES;
+use store::CHANGE_TIMES;
+use store::DECAYS;
+use store::Head;
+use store::JOB_ENERGIES;
+use store::JOB_TIMES;
+use store::LEVELS_MAX;
+use store::POWERS;
+use store::STORE_SIZE;
 
 // The steady-state temperature of each level.
 pub struct Steady {
-    pub levels: [u32; 8],
+    pub levels: [u32; LEVELS_MAX],
 }
 
 // Works out the steady-state temperatures once, for all jobs.
-pub fn steady_states(figures: &[u32; 1672], resistance: u32) -> Steady
-    requires { ⌜ ((j : ℕ) → j < 8 → steadyState (getD (now figures) j 0) resistance ≤ 20000) ⌝ }
-    ensures { λ r. ⌜ r ≡ record { levels = steadies (now (figures .entry)) resistance } ⌝ }
+pub fn steady_states(store: &[u32; STORE_SIZE], resistance: u32) -> Steady
+    requires { ⌜ ((j : ℕ) → j < levelsMax → steadyState (getD (now store) (powers + j) 0) resistance ≤ temperatureMax) ⌝ }
+    ensures { λ r. ⌜ r ≡ record { levels = steadies (now (store .entry)) resistance } ⌝ }
 {
-    let mut levels = [0u32; 8];
+    let mut levels = [0u32; LEVELS_MAX];
     let mut j: usize = 0;
-    while j < 8 {
-        let t = thermal::steady_state(figures[j], resistance);
+    while j < LEVELS_MAX {
+        let t = thermal::steady_state(store[POWERS + j], resistance);
         levels[j] = t as u32;
         j += 1;
     }
@@ -31,26 +43,26 @@ pub fn steady_states(figures: &[u32; 1672], resistance: u32) -> Steady
 }
 
 // The cost of the change from level p to level j.
-fn change_at(figures: &[u32; 1672], p: u32, j: u32) -> Change
-    requires { ⌜ (p < 8) × (j < 8) ⌝ }
-    ensures { λ r. ⌜ r ≡ record { time = getD (now (figures .entry)) (8 + (p * 8 + j)) 0; energy = getD (now (figures .entry)) (72 + (p * 8 + j)) 0 } ⌝ }
+fn change_at(store: &[u32; STORE_SIZE], p: u32, j: u32) -> Change
+    requires { ⌜ (p < levelsMax) × (j < levelsMax) ⌝ }
+    ensures { λ r. ⌜ r ≡ changeIn (now (store .entry)) p j ⌝ }
 {
-    let k = p as usize * 8 + j as usize;
-    let time = figures[8 + k];
-    let energy = figures[72 + k];
+    let k = p as usize * LEVELS_MAX + j as usize;
+    let time = store[CHANGE_TIMES + k];
+    let energy = store[CHANGE_ENERGIES + k];
     Change { time, energy }
 }
 
 // The figures of job i at level j.
-fn job_at(figures: &[u32; 1672], steady: &[u32; 8], i: u32, j: u32) -> Job
-    requires { ⌜ (i < 64) × (j < 8) ⌝ }
-    ensures { λ r. ⌜ r ≡ record { time = getD (now (figures .entry)) (136 + (i * 8 + j)) 0; energy = getD (now (figures .entry)) (648 + (i * 8 + j)) 0; steady = getD (now (steady .entry)) j 0; decay = getD (now (figures .entry)) (1160 + (i * 8 + j)) 0 } ⌝ }
+fn job_at(store: &[u32; STORE_SIZE], steady: &[u32; LEVELS_MAX], i: u32, j: u32) -> Job
+    requires { ⌜ (i < jobsMax) × (j < levelsMax) ⌝ }
+    ensures { λ r. ⌜ r ≡ jobIn (now (store .entry)) (now (steady .entry)) i j ⌝ }
 {
     let n = j as usize;
-    let k = i as usize * 8 + n;
-    let time = figures[136 + k];
-    let energy = figures[648 + k];
-    let decay = figures[1160 + k];
+    let k = i as usize * LEVELS_MAX + n;
+    let time = store[JOB_TIMES + k];
+    let energy = store[JOB_ENERGIES + k];
+    let decay = store[DECAYS + k];
     let steady = steady[n];
     Job {
         time,
@@ -60,34 +72,41 @@ fn job_at(figures: &[u32; 1672], steady: &[u32; 8], i: u32, j: u32) -> Job
     }
 }
 
+// The run before a sheet's first job: "time 0, energy 0, the start temperature and the start level".
+pub fn start_of(head: Head) -> Run
+    ensures { λ r. ⌜ ((store : List ℕ) → stateOf r ≡ start (sheetOf head store)) ⌝ }
+{
+    Run::start(head.start_level, head.start_temperature as u64)
+}
+
 // The run after its next job at level j, on every sheet whose figures these are.
-pub fn next_job(run: Run, figures: &[u32; 1672], steady: &[u32; 8], j: u32) -> Run
-    requires { ⌜ Rests run (now figures) (now steady) j ⌝ }
-    ensures { λ r. ⌜ ((s : Sheet) → Stored s (now (figures .entry)) (now (steady .entry)) → stateOf r ≡ step s (stateOf run) j) ⌝ }
+pub fn next_job(run: Run, store: &[u32; STORE_SIZE], steady: &[u32; LEVELS_MAX], j: u32) -> Run
+    requires { ⌜ Rests run (now store) (now steady) j ⌝ }
+    ensures { λ r. ⌜ ((s : Sheet) → Stored s (now (store .entry)) (now (steady .entry)) → stateOf r ≡ step s (stateOf run) j) ⌝ }
 {
     let p = run.level;
     let i = run.done;
-    let c = change_at(figures, p, j);
-    let b = job_at(figures, steady, i, j);
+    let c = change_at(store, p, j);
+    let b = job_at(store, steady, i, j);
     run.after(j, c, b)
 }
 
-// Runs the first n levels of a list without rounding, from the start of every sheet whose figures these are.
+// The run after its next n jobs at the levels of a list, without rounding, on every sheet whose figures these are.
 pub fn run_levels(
     first: Run,
-    figures: &[u32; 1672],
-    steady: &[u32; 8],
+    store: &[u32; STORE_SIZE],
+    steady: &[u32; LEVELS_MAX],
     levels: &[u8],
     n: usize,
 ) -> Run
-    requires { ⌜ Started first (now figures) (now steady) ⌝ }
-    requires { ⌜ (n ≤ 64) × (n ≤ length (now levels)) × ((i : ℕ) → i < n → getD (now levels) i 0 < 8) ⌝ }
-    ensures { λ q. ⌜ ((s : Sheet) → Ranges s → Stored s (now (figures .entry)) (now (steady .entry)) → stateOf first ≡ start s → stateOf q ≡ exactRun s (start s) (take n (now (levels .entry)))) ⌝ }
+    requires { ⌜ Begun first (now store) (now steady) n ⌝ }
+    requires { ⌜ (n ≤ length (now levels)) × ((i : ℕ) → i < n → getD (now levels) i 0 < levelsMax) ⌝ }
+    ensures { λ q. ⌜ ((s : Sheet) → Ranges s → Stored s (now (store .entry)) (now (steady .entry)) → stateOf q ≡ exactRun s (stateOf first) (take n (now (levels .entry)))) ⌝ }
 {
     let mut run = first;
     let mut i: usize = 0;
     while i < n {
-        run = next_job(run, figures, steady, levels[i] as u32);
+        run = next_job(run, store, steady, levels[i] as u32);
         i += 1;
     }
     run

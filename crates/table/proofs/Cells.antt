@@ -1,9 +1,10 @@
--- Cells of the table: where their words stand, and what is small of them.
+-- Cells of the table: where their words stand, that their energy and temperature are small, as both axes end with a raised limit, and
+-- that a filled table holds their words.
 -- Assumes nothing.
 use mathlib.Core.Path.{refl, ap, _∙_}
 use mathlib.Core.List.{List}
 use Prim.Native.Nat.{ℕ, _+_, _*_, _≤_, _<_}
-use native.Mathlib.Nat.{mul-le-mul-right, zero-add}
+use native.Mathlib.Nat.{mul-assoc, mul-le-mul, mul-le-mul-right, zero-add}
 use native.Mathlib.Omega.{arith}
 use lib.ListN.{length, drop, List·getD-append}
 use Rattle.frame.specs.Sheet.{Sheet, Ranges}
@@ -13,7 +14,8 @@ use Rattle.frame.specs.Run.{raised}
 use Rattle.frame.specs.Table.{energyCells, temperatureCells, need, place, cell, wordAt, tabulate, filled}
 use Rattle.frame.proofs.Table.{place-lt, word-at}
 use Rattle.frame.proofs.Tabulate.{length-tabulate, getD-tabulate}
-use Rattle.table.specs.Table.{AtCell, Holds}
+use Rattle.table.specs.declared.Frame.{Frame}
+use Rattle.table.specs.Table.{wordsMax, raisedEnergyMax, Axes, AtCell, cells, Holds}
 
 module _ (s : Sheet) where
   -- The words of m jobs done come after those of fewer.
@@ -26,7 +28,7 @@ module _ (s : Sheet) where
 
 -- A cell's energy and temperature are small.
 module _ (s : Sheet) (ok : Ranges s) where
-  pub cell-energy : (a : ℕ) → a < energyCells s → a * s.energyStep ≤ 4000000000
+  pub cell-energy : (a : ℕ) → a < energyCells s → a * s.energyStep ≤ raisedEnergyMax
   unfolding energyCells raise
   cell-energy a h =
       let l : a ≤ ceilDiv s.energyBudget s.energyStep = omega arith in
@@ -49,6 +51,20 @@ module _ (s : Sheet) (ok : Ranges s) where
         energy = cell-energy a ha;
         temperature = cell-temperature b hb;
       }
+
+-- A level has at most as many words as a table.
+module _ {s : Sheet} {f : Frame} (g : Axes s f) where
+  pub cells-small : cells s ≤ wordsMax
+  unfolding cells need
+  cells-small =
+      let m : 1 ≤ s.jobs * s.levels = mul-le-mul (g .ranges .jobs .low) (g .ranges .levels .low) in
+      omega (arith, g .allowed, mul-le-mul-right (energyCells s * temperatureCells s) m, mul-assoc (s.jobs * s.levels) (energyCells s) (temperatureCells s))
+
+  pub width-small : f .«temperature_cells» ≤ wordsMax
+  unfolding cells energyCells
+  width-small =
+      let h : 1 ≤ ceilDiv s.energyBudget s.energyStep + 1 = omega arith in
+      omega (arith, cells-small, g .temperature-cells, mul-le-mul-right (temperatureCells s) h)
 
 -- A filled table holds the words of all jobs.
 pub filled-words : (s : Sheet) (old : List ℕ) (i : ℕ) → need s ≤ length old → Holds s (filled s old) i

@@ -1,4 +1,5 @@
--- What a table says of the time that is left is the least time, where it holds the words of one more job done.
+-- What a table says of the time that is left is the least time, where it holds the words of one more job done: by the three ends of a
+-- step (over the energy budget, over the temperature limit, within both), and one level more at a time.
 -- Assumes nothing.
 use mathlib.Core.Path.{_≡_, refl, sym, ap, ap₂, _∙_}
 use mathlib.Core.List.{List}
@@ -16,6 +17,7 @@ use Rattle.frame.specs.Table.{energyCells, temperatureCells, need, place}
 use Rattle.frame.proofs.Table.{place-lt, energy-cell, temperature-cell, least-word}
 use Rattle.run.specs.Run.{stateOf}
 use Rattle.run.specs.declared.Run.{Run}
+use Rattle.run.proofs.Small.{jobMost}
 use Rattle.table.specs.declared.Frame.{Frame}
 use Rattle.table.specs.Table.{Axes, AtCell, placeFor, restBy, placeBy, restIn, Raises, Steps, Holds}
 
@@ -160,7 +162,7 @@ raises x b u v =
 
 -- A run within the limits that has a job to do is raised to a cell of the table.
 pub looks : {s : Sheet} {f : Frame} → Axes s f → (b : Run) → b .level < s.levels → b .energy ≤ s.energyBudget → b .temperature ≤ s.temperatureLimit →
-    b .done < f .jobs → (Steps f b) × (placeBy f b < need s)
+    b .done < f .head .jobs → (Steps f b) × (placeBy f b < need s)
 unfolding need placeFor energyCells temperatureCells
 looks {s} {f} x b l u v d =
     let ok = x .ranges in (
@@ -170,18 +172,18 @@ looks {s} {f} x b l u v d =
     )
 
 module _ (f : Frame) (t : List ℕ) (b : Run) where
-  pub rest-word : b .done < f .jobs → restIn f t b ≡ getD t (placeBy f b) 0
+  pub rest-word : b .done < f .head .jobs → restIn f t b ≡ getD t (placeBy f b) 0
   unfolding restIn
-  rest-word d = rw (lt-ltb (b .done) (f .jobs) d) refl
+  rest-word d = rw (lt-ltb (b .done) (f .head .jobs) d) refl
 
-  pub rest-none : f .jobs ≤ b .done → restIn f t b ≡ 0
+  pub rest-none : f .head .jobs ≤ b .done → restIn f t b ≡ 0
   unfolding restIn
-  rest-none d = rw (le-ltb (b .done) (f .jobs) d) refl
+  rest-none d = rw (le-ltb (b .done) (f .head .jobs) d) refl
 
   -- A word is a number of 32 bits, and so is what a table says.
   pub rest-small : ((k : ℕ) → getD t k 0 < 4294967296) → restIn f t b < 4294967296
   rest-small h =
-      elim (decLt (b .done) (f .jobs)) [
+      elim (decLt (b .done) (f .head .jobs)) [
         | yes d ↦ omega (arith, rest-word d, h (placeBy f b))
         | no d ↦ omega (arith, rest-none (omega arith))
       ]
@@ -190,7 +192,7 @@ module _ {s : Sheet} {f : Frame} (x : Axes s f) {a : State} (c : AtCell s a) {j 
   after-cell : stateOf b ≡ next s a j
   after-cell = e ∙ sym (next-cell s j c)
 
-  pub way-short : b .time ≤ 20000000
+  pub way-short : b .time ≤ jobMost
   unfolding step change job
   way-short =
       omega (
@@ -201,16 +203,16 @@ module _ {s : Sheet} {f : Frame} (x : Axes s f) {a : State} (c : AtCell s a) {j 
         x .ranges .jobTime a.done j,
       )
 
-  pub way-energy : (rest : State → ℕ) → f .«energy_budget» < b .energy → infeasible ≡ via s rest a j
+  pub way-energy : (rest : State → ℕ) → f .head .«energy_budget» < b .energy → infeasible ≡ via s rest a j
   unfolding via
   way-energy rest h = sym (rw (← after-cell) (cost-energy s (stateOf b) _ (omega (arith, x .energy-budget))))
 
-  pub way-temperature : (rest : State → ℕ) → b .energy ≤ f .«energy_budget» → f .«temperature_limit» < b .peak → infeasible ≡ via s rest a j
+  pub way-temperature : (rest : State → ℕ) → b .energy ≤ f .head .«energy_budget» → f .head .«temperature_limit» < b .peak → infeasible ≡ via s rest a j
   unfolding via
   way-temperature rest u h =
       sym (rw (← after-cell) (cost-temperature s (stateOf b) _ (omega (arith, x .energy-budget)) (omega (arith, x .temperature-limit))))
 
-  module _ (u : b .energy ≤ f .«energy_budget») (v : b .peak ≤ f .«temperature_limit») where
+  module _ (u : b .energy ≤ f .head .«energy_budget») (v : b .peak ≤ f .head .«temperature_limit») where
     pub way-within : (t : List ℕ) (r : ℕ) → r ≡ restIn f t b → min infeasible (b .time + r) ≡ via s (restBy s t) a j
     unfolding via
     way-within t r q =
@@ -230,5 +232,5 @@ module _ {s : Sheet} {f : Frame} (x : Axes s f) {a : State} (c : AtCell s a) {j 
           x .temperature-limit,
         )
 
-    pub way-looks : b .done < f .jobs → (Steps f b) × (placeBy f b < need s)
+    pub way-looks : b .done < f .head .jobs → (Steps f b) × (placeBy f b < need s)
     way-looks d = looks x b (rw way-level l) (omega (arith, x .energy-budget)) way-cool d

@@ -1,7 +1,7 @@
 -- Laws of lines and fields: by the first byte of a text, and by places of a longer one.
 -- Assumes nothing.
 use mathlib.Core.Path.{_≡_, refl, ap, _∙_}
-use mathlib.Core.Bool.{true}
+use mathlib.Core.Bool.{true, false}
 use mathlib.Core.List.{List, [], _∷_}
 use Prim.Native.Nat.{ℕ, zero, suc, _+_, _-_, _≤_, _<_}
 use native.Mathlib.Nat.{sub-zero, zero-sub, suc-sub-suc}
@@ -10,9 +10,9 @@ use native.Mathlib.Numerals.{add-one}
 use native.Mathlib.Omega.{arith}
 use lib.ListN.{length, getD, take, drop, length-take, length-drop}
 use lib.Seq.{drop-cons, take-nil, take-all, drop-drop, getD-take, getD-drop}
-use borrow.Author.Tests.{lt-ltb, ltb-true, eq-eqb, ne-eqb}
+use borrow.Author.Tests.{lt-ltb, ltb-true, le-leb, lt-leb, eq-eqb, ne-eqb}
 use Rattle.text.specs.Line.{LineAt}
-use Rattle.text.specs.Text.{before, until, beyond, ahead, count, part}
+use Rattle.text.specs.Text.{before, until, beyond, ahead, count, part, all}
 
 -- ---- by the first byte
 
@@ -208,16 +208,34 @@ scanned-all s from i tabs z h =
     let v = ap (count 9) u ∙ count-none 9 in
     record { end = omega arith; tabs = omega arith; within = omega arith }
 
--- ---- finding a byte, by places
+-- ---- every byte in a range
 
-module _ (b : ℕ) (s : List ℕ) (i to : ℕ) where
-  pub found-end : to ≤ i → i + before b (part i to s) ≡ i
-  found-end h = omega (arith, ap (before b) (part-none i to s h) ∙ before-none b)
+module _ (lo hi b : ℕ) (t : List ℕ) where
+  pub all-low : b < lo → all lo hi (b ∷ t) ≡ false
+  unfolding all
+  all-low h = simp (lt-leb lo b h)
 
-  pub found-here : i < to → to ≤ length s → getD s i 0 ≡ b → i + before b (part i to s) ≡ i
-  found-here h k e =
-      omega (arith, ap (before b) (part-here i to s h k) ∙ before-hit b (getD s i 0) (part (i + 1) to s) e)
+  pub all-high : lo ≤ b → hi < b → all lo hi (b ∷ t) ≡ false
+  unfolding all
+  all-high k h = simp (le-leb lo b k, lt-leb b hi h)
 
-  pub found-on : i < to → to ≤ length s → (getD s i 0 ≡ b → ⊥) → i + before b (part i to s) ≡ i + 1 + before b (part (i + 1) to s)
-  found-on h k n =
-      omega (arith, ap (before b) (part-here i to s h k) ∙ before-pass b (getD s i 0) (part (i + 1) to s) n)
+  pub all-on : lo ≤ b → b ≤ hi → all lo hi (b ∷ t) ≡ all lo hi t
+  unfolding all
+  all-on k h = simp (le-leb lo b k, le-leb b hi h)
+
+pub all-none : (lo hi : ℕ) → all lo hi [] ≡ true
+unfolding all
+all-none lo hi = refl
+
+module _ (lo hi : ℕ) (s : List ℕ) (i to : ℕ) (h : i < to) (k : to ≤ length s) where
+  pub part-low : getD s i 0 < lo → all lo hi (part i to s) ≡ false
+  part-low b = rw (part-here i to s) (all-low lo hi _ _ b)
+
+  pub part-high : lo ≤ getD s i 0 → hi < getD s i 0 → all lo hi (part i to s) ≡ false
+  part-high a b = rw (part-here i to s) (all-high lo hi _ _ a b)
+
+  pub part-on : lo ≤ getD s i 0 → getD s i 0 ≤ hi → all lo hi (part i to s) ≡ all lo hi (part (i + 1) to s)
+  part-on a b = rw (part-here i to s) (all-on lo hi _ _ a b)
+
+pub part-end : (lo hi : ℕ) (s : List ℕ) (i to : ℕ) → to ≤ i → all lo hi (part i to s) ≡ true
+part-end lo hi s i to h = rw (part-none i to s h) (all-none lo hi)

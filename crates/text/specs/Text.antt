@@ -2,10 +2,10 @@
 -- by one byte 9." The next line of a text is what stands before its first byte 10, and the next field of a line what stands
 -- before its first byte 9.
 -- Assumes nothing.
-use mathlib.Core.Bool.{Bool, cond}
+use mathlib.Core.Bool.{Bool, true, false, cond}
 use mathlib.Core.List.{List, [], _∷_}
 use Prim.Native.Nat.{ℕ, suc, _-_}
-use lib.Dec.{eqb, ltb}
+use lib.Dec.{eqb, leb, ltb}
 use lib.ListN.{length, take, drop}
 
 -- How many bytes stand before the first byte b; all of them where there is none.
@@ -33,3 +33,8 @@ count b (c ∷ t) = cond (eqb c b) (suc (count b t)) (count b t)
 -- The bytes from place a up to place e.
 unfoldable pub part : ℕ → ℕ → List ℕ → List ℕ
 part a e t = take (e - a) (drop a t)
+
+-- Every byte lies in a range, both ends included.
+unfoldable pub all : ℕ → ℕ → List ℕ → Bool
+all lo hi [] = true
+all lo hi (b ∷ t) = cond (leb lo b) (cond (leb b hi) (all lo hi t) false) false

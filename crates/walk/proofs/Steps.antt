@@ -1,4 +1,5 @@
--- Following a filled table: the cell at which the walk stands, and the levels that it has written.
+-- Following a filled table: the levels written so far are the plan's, as the level that the table gives is the plan's first, and the
+-- cell to which the job's end is raised has the rest of the plan.
 -- Assumes nothing.
 use mathlib.Core.Path.{_≡_, refl, sym, ap, _∙_}
 use mathlib.Core.List.{List, [], _∷_, _++_, append-assoc, append-nil}
@@ -17,7 +18,7 @@ use Rattle.frame.proofs.Walk.{first-same, alike-cell, least-alike, plan-alike, 
 use Rattle.run.specs.Run.{stateOf}
 use Rattle.run.specs.declared.Run.{Run}
 use Rattle.table.specs.declared.Frame.{Frame}
-use Rattle.table.specs.Table.{Axes, AtCell, restBy, Holds}
+use Rattle.table.specs.Table.{Axes, AtCell, restBy, levelBy, Holds}
 use Rattle.table.proofs.Cells.{at-cell}
 use Rattle.table.proofs.Lookup.{next-level, next-done, next-peak, next-cell, way-least}
 use Rattle.walk.specs.Walk.{Starts}
@@ -35,7 +36,7 @@ module _ {s : Sheet} (ok : Ranges s) where
 
   -- The level that the table gives is the plan's.
   pub chosen : (t : List ℕ) (a : State) (r : ℕ) → Holds s t (suc a.done) → a.done + suc r ≡ s.jobs → least s (suc r) a < infeasible →
-      (j : ℕ) → j ≡ firstWithin s.levels (via s (restBy s t) a) (leastOf s.levels (via s (restBy s t) a)) → Goes s r a j
+      (j : ℕ) → j ≡ levelBy s t a → Goes s r a j
   unfolding least
   chosen t a r h e l j q =
       let n : s.jobs - suc a.done ≡ r = omega arith in
@@ -47,7 +48,7 @@ module _ {s : Sheet} (ok : Ranges s) where
 -- ---- raising, by the axes that the code has
 
 module _ {s : Sheet} {f : Frame} (x : Axes s f) (b : Run) where
-  pub raised-cell : (c : State) → c ≡ fresh (b .done) (b .level) (raise (f .«energy_step») (b .energy)) (raise (f .«temperature_step») (b .temperature)) →
+  pub raised-cell : (c : State) → c ≡ fresh (b .done) (b .level) (raise (f .head .«energy_step») (b .energy)) (raise (f .head .«temperature_step») (b .temperature)) →
       c ≡ cellOf s (stateOf b)
   raised-cell c e = rw (← x .energy-step, ← x .temperature-step) e
 
@@ -79,7 +80,7 @@ module _ {s : Sheet} (ok : Ranges s) where
       record { most = omega arith; long = refl; count = rw z m; at = λ h. c; alive = rw z l; done = rw z refl; rest = refl }
 
   module _ {start : State} {n : ℕ} {old part : List ℕ} {i : ℕ} {a : State} (g : Going s start n old part i a) (l : i < n) (t : List ℕ)
-      (h : Holds s t (suc a.done)) (j : ℕ) (q : j ≡ firstWithin s.levels (via s (restBy s t) a) (leastOf s.levels (via s (restBy s t) a))) where
+      (h : Holds s t (suc a.done)) (j : ℕ) (q : j ≡ levelBy s t a) where
     one-left : n - i ≡ suc (n - (i + 1))
     one-left = omega arith
 

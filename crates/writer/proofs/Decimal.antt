@@ -12,10 +12,12 @@ use lib.ListN.{length, getD, length-append, List·getD-append}
 use lib.Seq.{take-at}
 use borrow.Author.Tests.{lt-ltb, le-ltb}
 use Rattle.text.specs.Text.{before, until}
-use Rattle.text.specs.Number.{all, isNumber, valueFrom, fieldAt}
-use Rattle.text.specs.declared.Field.the-variants.{Number}
+use Rattle.text.specs.Text.{all}
+use Rattle.numbers.specs.Number.{isNumber, valueFrom, fieldAt}
+use Rattle.numbers.specs.declared.Field.the-variants.{Number}
 use Rattle.text.proofs.Text.{before-pass}
-use Rattle.text.proofs.Number.{all-none, all-on, number-digits}
+use Rattle.text.proofs.Text.{all-none, all-on}
+use Rattle.numbers.proofs.Number.{number-digits}
 use Rattle.writer.specs.Decimal.{digitsIn, decimal}
 use Rattle.writer.specs.Written.{Wrote}
 use Rattle.writer.proofs.Written.{join}

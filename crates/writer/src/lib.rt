@@ -1,8 +1,8 @@
 // Bytes written into a part that is lent. Each function hands back the place after what it wrote.
 ghost use mathlib.Core.List.{[], _∷_};
-ghost use Prim.Native.Nat.{_+_, _≤_, _<_, _^_};
+ghost use Prim.Native.Nat.{_+_, _≤_, _<_};
 ghost use lib.ListN.{length};
-ghost use Rattle.writer.specs.Decimal.{decimal, field};
+ghost use Rattle.writer.specs.Decimal.{decimal, field, numberEnd, fieldMax};
 ghost use Rattle.writer.specs.Written.{Wrote};
 
 // One byte.
@@ -42,9 +42,9 @@ pub fn put_number(text: &mut [u8], at: usize, n: u64) -> usize
 
 // A tab and a number of at most 10 digits; every figure of a plan is one.
 pub fn put_field(text: &mut [u8], at: usize, n: u64) -> usize
-    requires { ⌜ (n < 10 ^ 10) × (at + 11 ≤ length (now text)) ⌝ }
+    requires { ⌜ (n < numberEnd) × (at + fieldMax ≤ length (now text)) ⌝ }
     ensures { λ r. ⌜ Wrote (now (text .entry)) at (field n) (now (text .exit)) r ⌝ }
-    ensures { λ r. ⌜ r ≤ at + 11 ⌝ }
+    ensures { λ r. ⌜ r ≤ at + fieldMax ⌝ }
 {
     let first = put_byte(text, at, b'\t');
     put_number(text, first, n)

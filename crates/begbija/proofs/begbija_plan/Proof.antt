@@ -1,5 +1,5 @@
 use mathlib.Core.Path.{sym, ap, _∙_}
-use Rattle.planner.specs.declared.Reply.{Reply}
+use Rattle.reply.specs.declared.Reply.{Reply}
 use Rattle.begbija.specs.Begbija.{minus}
 use Rattle.begbija.proofs.Numbers.{number-only, handed-on}
 use borrow.Author.Needs.{needs}

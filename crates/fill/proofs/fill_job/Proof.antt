@@ -1,11 +1,13 @@
+-- A job's words are filled: what follows it and its moves meet what the word loops rest on, and these leave its words (`Jobs`).
 use Prim.Native.Nat.{suc}
 use native.Mathlib.Omega.{arith}
 use denote.Ref.{now}
-use Rattle.table.specs.Table.{sheetBy}
+use Rattle.store.specs.Figures.{sheetOf}
 use Rattle.fill.proofs.Filling.{filled-holds}
-use Rattle.fill.proofs.Figures.{cells-small}
-use Rattle.fill.proofs.Jobs.{base-start, base-mono, moving-by, room-by, lows-by, filled-by}
-use Rattle.fill.proofs.Places.{cells-by, start-is, row-small}
+use Rattle.table.proofs.Cells.{cells-small}
+use Rattle.follow.proofs.Places.{base-start, base-mono}
+use Rattle.follow.proofs.Laying.{cells-by, start-is, row-small}
+use Rattle.fill.proofs.Jobs.{moving-by, room-by, lows-by, filled-by}
 use borrow.Author.Needs.{needs}
 use Rattle.fill.proofs.fill_job.Statement.{statement}
 use Rattle.fill.proofs.fill_job.Tie as tie
@@ -14,44 +16,44 @@ cast-levels : tie.Need-cast-levels
 cast-levels c = search needs
 
 mul-cells : tie.Need-mul-cells
-mul-cells c = let g = c .before .before .before .before .before .before .before .pre .0 .0 in omega (arith, cells-by g, cells-small g)
+mul-cells c = let g = c .before .before .before .before .before .before .before .pre .0 .axes in omega (arith, cells-by g, cells-small g)
 
 expand-job-requires : tie.Need-expand-job-requires
 expand-job-requires c κs =
-    let a = c .before .before .before .before .before .before .before .before .pre in
-    let q = a .1 .1 in
-    (a .0, (q .0, filled-holds _ (omega (arith, base-start (sheetBy (c .before .before .before .before .before .before .before .before .args .f) (now (c .before .before .before .before .before .before .before .before .args .figures))) (suc (c .before .before .before .before .before .before .before .before .args .i)))) (q .1)))
+    let a = c .before .before .before .before .before .before .before .before in
+    let q = a .pre .1 in
+    let s = sheetOf (a .args .f .head) (now (a .args .store)) in
+    (a .pre .0, record { room = q .room; job = q .job; next = filled-holds _ (omega (arith, base-start s (suc (a .args .i)))) (q .next) })
 
 find-moves-requires : tie.Need-find-moves-requires
 find-moves-requires c κs = search needs
 
 mul-at : tie.Need-mul-at
-mul-at c = let g = c .before .before .before .before .before .before .before .before .before .before .before .before .before .before .before .before .before .before .before .before .before .pre .0 .0 in omega (arith, row-small g (c .before .before .before .before .before .before .before .before .before .before .before .before .before .before .before .before .before .before .before .before .before .args .i) 0 (c .before .before .before .before .before .before .before .before .before .before .before .before .before .before .before .before .before .before .before .before .before .pre .1 .1 .0) (g .ranges .levels .low))
+mul-at c = let g = c .before .before .before .before .before .before .before .before .before .before .before .before .before .before .before .before .before .before .before .before .before .pre .0 .axes in omega (arith, row-small g (c .before .before .before .before .before .before .before .before .before .before .before .before .before .before .before .before .before .before .before .before .before .args .i) 0 (c .before .before .before .before .before .before .before .before .before .before .before .before .before .before .before .before .before .before .before .before .before .pre .1 .job) (g .ranges .levels .low))
 
 mul-at-2 : tie.Need-mul-at-2
 mul-at-2 c =
     let a = c .before .before .before .before .before .before .before .before .before .before .before .before .before .before .before .before .before .before .before .before .before in
-    let g = a .pre .0 .0 in
-    omega (arith, start-is g (a .args .i), a .pre .1 .1 .1 .most, base-mono (sheetBy (a .args .f) (now (a .args .figures))) (a .args .i) (suc (a .args .i)) (omega arith), g .allowed)
+    let g = a .pre .0 .axes in
+    omega (arith, start-is g (a .args .i), a .pre .1 .next .most, base-mono (sheetOf (a .args .f .head) (now (a .args .store))) (a .args .i) (suc (a .args .i)) (omega arith), g .allowed)
 
 relax-words-requires : tie.Need-relax-words-requires
 relax-words-requires c κs =
     let a = c .before .before .before .before .before .before .before .before .before .before .before .before .before .before .before .before .before .before .before .before .before .before .before .before .before .before in
-    let g = a .pre .0 .0 in
+    let g = a .pre .0 .axes in
     let i = a .args .i in
-    let hi = a .pre .1 .1 .0 in
-    let n = a .pre .1 .0 in
+    let hi = a .pre .1 .job in
+    let n = a .pre .1 .moves in
     let m = c .before .before .before .before .before .before .before .before .before .before .before .find-moves in
     let x = c .before .before .before .before .before .before .before .before .before .before .before .before .before .before .before .before .before .expand-job .ensures in
-    let r = room-by _ (g .ranges) i hi (m .ensures) (g .levels) (cells-by g) (start-is g i) in (
-      moving-by _ (g .ranges) i hi (m .ensures) (g .levels) (cells-by g) (start-is g i) (omega (arith, n .0, m .kept)) (omega (arith, n .1, m .kept)) (omega (arith, n .2, m .kept)),
-      (
-        omega (arith, r, a .pre .0 .2, x .1 .long),
-        omega (arith, r, g .allowed),
-        n .3,
-        lows-by _ (g .ranges) i hi (m .ensures) (g .levels) (cells-by g) (start-is g i) (x .0),
-      ),
-    )
+    let r = room-by _ (g .ranges) i hi (m .ensures) (g .levels) (cells-by g) (start-is g i) in
+    let moves =
+    moving-by _ (g .ranges) i hi (m .ensures) (g .levels) (cells-by g) (start-is g i) (record { shifts-long = omega (arith, n .shifts-long, m .kept); reaches-long = omega (arith, n .reaches-long, m .kept); times-long = omega (arith, n .times-long, m .kept) }) in
+    record {
+      moves = moves;
+      room = record { few = moves .most; inside = omega (arith, r, a .pre .1 .room, x .kept .long); small = omega (arith, r, g .allowed); parts = a .pre .1 .scratch };
+      lows = lows-by _ (g .ranges) i hi (m .ensures) (g .levels) (cells-by g) (start-is g i) x;
+    }
 
 same-length : tie.Need-same-length
 same-length c = search needs
@@ -71,12 +73,12 @@ same-length-5 c = search needs
 returns : tie.Need-returns
 returns c =
     let a = c .before .before .before .before .before .before .before .before .before .before .before .before .before .before .before .before .before .before .before .before .before .before .before .before .before .before .before .before .before .before .before in
-    let g = a .pre .0 .0 in
+    let g = a .pre .0 .axes in
     let x = c .before .before .before .before .before .before .before .before .before .before .before .before .before .before .before .before .before .before .before .before .before .before .expand-job .ensures in
     let m = c .before .before .before .before .before .before .before .before .before .before .before .before .before .before .before .before .find-moves in
     let r = c .before .before .before .before .relax-words .ensures in (
-      filled-by _ (g .ranges) (a .args .i) (a .pre .1 .1 .0) (m .ensures) (g .levels) (cells-by g) (start-is g (a .args .i)) (x .0) (x .1) (a .pre .1 .1 .1) (r .0),
-      (record { long = omega (arith, m .kept) }, (record { long = omega (arith, m .kept) }, (record { long = omega (arith, m .kept) }, r .1))),
+      filled-by _ (g .ranges) (a .args .i) (a .pre .1 .job) (m .ensures) (g .levels) (cells-by g) (start-is g (a .args .i)) x (a .pre .1 .next) (r .0),
+      record { shifts = record { long = omega (arith, m .kept) }; reaches = record { long = omega (arith, m .kept) }; times = record { long = omega (arith, m .kept) }; part = r .1 },
     )
 
 pub fill-job-spec : {M : Type 1} → statement M

@@ -1,10 +1,13 @@
+-- `read_block` reads what the definition says: the lines that `take_lines` took are read, and each line behind them by `read_line` and
+-- `put_values`.
 use mathlib.Core.List.{List}
 use Prim.Native.Nat.{ℕ, _-_}
 use native.Mathlib.Omega.{arith}
 use borrow.Author.Needs.{needs}
 use Rattle.text.proofs.Scanned.{line-tabs, line-from}
-use Rattle.lines.specs.Lines.{rowFor}
-use Rattle.lines.proofs.Lines.{Going, line-taken, going-all, going-missing, going-fault, going-on, places-most}
+use Rattle.line_kinds.specs.Figures.{fieldsFor}
+use Rattle.line_kinds.proofs.Figures.{line-taken, places-most}
+use Rattle.lines.proofs.Lines.{Going, going-all, going-missing, going-fault, going-on}
 use Rattle.lines.proofs.Take.{going-took}
 use Rattle.lines.proofs.read_block.Statement.{statement}
 use Rattle.lines.proofs.read_block.Tie as tie
@@ -52,11 +55,11 @@ same-length-2 c = let h = so-far (c .before .before .before .before .before) .lo
 returns-2 : tie.Need-returns-2 Inv-loop μ-loop
 returns-2 c = going-fault (so-far (c .before .before .before .before .before)) _ (search needs) _ (c .before .before .before .scan-line .ensures) (search needs) _ (c .before .read-line .ensures) (c .match .keys2)
 
-add-put-row : tie.Need-add-put-row Inv-loop μ-loop
-add-put-row c = omega (arith, places-most (c .before .before .before .before .before .before .before .before .before .before .before .before .before .before .before .args .kind), c .before .before .before .before .before .before .before .before .before .before .before .before .before .before .before .pre)
+add-put-values : tie.Need-add-put-values Inv-loop μ-loop
+add-put-values c = omega (arith, places-most (c .before .before .before .before .before .before .before .before .before .before .before .before .before .before .before .args .kind), c .before .before .before .before .before .before .before .before .before .before .before .before .before .before .before .pre)
 
-put-row-requires : tie.Need-put-row-requires Inv-loop μ-loop
-put-row-requires c κs = (so-far (c .before .before .before .before .before .before .before .before) .long, omega (arith, c .before .before .before .before .before .before .before .before .before .before .before .before .before .before .before .pre))
+put-values-requires : tie.Need-put-values-requires Inv-loop μ-loop
+put-values-requires c κs = record { place = omega (arith, c .before .before .before .before .before .before .before .before .before .before .before .before .before .before .before .pre); long = so-far (c .before .before .before .before .before .before .before .before) .long }
 
 add-p : tie.Need-add-p Inv-loop μ-loop
 add-p c = search needs
@@ -72,7 +75,7 @@ loop-again c =
     let g = c .before .before .before .before .before .before .before .before .before .before .before .loop .inv in
     let r = c .before .before .before .before .before .before .before .before .before .scan-line .ensures in
     λ old h. going-on (g old h) (search needs)
-    (line-taken r (omega (arith, r .within, c .before .before .before .before .before .before .before .before .if1 .left)) (rowFor _ _) _ (c .before .before .before .before .before .before .before .read-line .ensures) (c .before .before .before .before .before .enum-told .given .1) _ _ _ _ (c .before .before .put-row .ensures))
+    (line-taken r (omega (arith, r .within, c .before .before .before .before .before .before .before .before .if1 .left)) (fieldsFor _ _) _ (c .before .before .before .before .before .before .before .read-line .ensures) (c .before .before .before .before .before .enum-told .given .1) _ _ _ _ (c .before .before .put-values .ensures))
 
 add-t28 : tie.Need-add-t28 Inv-loop μ-loop
 add-t28 c = search needs
@@ -100,8 +103,8 @@ read-block-spec =
     add-t23
     same-length-2
     returns-2
-    add-put-row
-    put-row-requires
+    add-put-values
+    put-values-requires
     add-p
     add-j
     loop-less

@@ -1,8 +1,10 @@
+-- `take_lines` takes what the definition takes: each line by `take_line`, up to one that is not taken.
 use Prim.Native.Nat.{_-_}
 use native.Mathlib.Omega.{arith}
 use borrow.Author.Needs.{needs}
-use Rattle.lines.proofs.Lines.{places-most}
-use Rattle.lines.proofs.Take.{TakingLines, lines-none, lines-on, lines-stop, lines-all, takes-next}
+use Rattle.line_kinds.proofs.Figures.{places-most}
+use Rattle.fast_lines.proofs.Take.{takes-next}
+use Rattle.lines.proofs.Take.{TakingLines, lines-none, lines-on, lines-stop, lines-all}
 use Rattle.lines.proofs.take_lines.Statement.{statement}
 use Rattle.lines.proofs.take_lines.Tie as tie
 
@@ -19,7 +21,7 @@ add-take-line : tie.Need-add-take-line Inv-loop μ-loop
 add-take-line c = omega (arith, places-most (c .before .before .before .before .args .kind), c .before .before .before .before .pre)
 
 take-line-requires : tie.Need-take-line-requires Inv-loop μ-loop
-take-line-requires c κs = search needs
+take-line-requires c κs = (search needs, record { place = search needs; long = search needs })
 
 enum-known-t : tie.Need-enum-known-t Inv-loop μ-loop
 enum-known-t c = search needs

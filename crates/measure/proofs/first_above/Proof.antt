@@ -1,3 +1,4 @@
+-- The first place of a level that is l or more, by an invariant of the places that are passed (`Levels`).
 use mathlib.Core.Path.{_≡_, sym, _∙_}
 use Prim.Native.Nat.{_+_, _-_, _≤_}
 use native.Mathlib.Omega.{arith}

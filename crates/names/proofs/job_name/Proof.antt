@@ -1,8 +1,9 @@
-use mathlib.Core.Path.{sym, _∙_}
-use Prim.Native.Nat.{_+_, _*_, _≤_}
-use native.Mathlib.Omega.{arith}
-use borrow.Author.Needs.{needs}
+-- The name of a job: none of a job that the sheet does not have, else the second field of its J line.
+use mathlib.Core.Path.{ap, sym, _∙_}
+use Prim.Native.Nat.{ℕ}
+use Rattle.names.specs.Name.{nameAt}
 use Rattle.names.proofs.Name.{name-none, name-some, name-small}
+use borrow.Author.Needs.{needs}
 use Rattle.names.proofs.job_name.Statement.{statement}
 use Rattle.names.proofs.job_name.Tie as tie
 
@@ -21,33 +22,14 @@ slice-aggregate-result c = search needs
 returns : tie.Need-returns
 returns c = sym (name-none _ _ _ (c .before .before .before .before .read .ensures) (search needs))
 
-small : (c : tie.Else1) → let r = c .before .before .before .read .result in
-    (r .levels ≤ 8) × (r .levels * r .levels ≤ 8 * 8) × (c .before .before .before .before .before .args .i * (r .levels + 1) ≤ 64 * 9)
-small c = name-small _ _ _ (c .before .before .before .read .ensures) (search needs)
-
-add-name-at : tie.Need-add-name-at
-add-name-at c = search needs
-
-mul-name-at : tie.Need-mul-name-at
-mul-name-at c = let m = small c in omega arith
-
-add-name-at-2 : tie.Need-add-name-at-2
-add-name-at-2 c = let m = small c in omega arith
-
-add-name-at-3 : tie.Need-add-name-at-3
-add-name-at-3 c = search needs
-
-mul-name-at-2 : tie.Need-mul-name-at-2
-mul-name-at-2 c = let m = small c in omega arith
-
-add-name-at-4 : tie.Need-add-name-at-4
-add-name-at-4 c = let m = small c in omega arith
+lines-before-requires : tie.Need-lines-before-requires
+lines-before-requires c κs = name-small _ _ _ (c .before .before .before .read .ensures) (search needs)
 
 name-at-requires : tie.Need-name-at-requires
 name-at-requires c κs = search needs
 
 returns-2 : tie.Need-returns-2
-returns-2 c = c .name-at .ensures ∙ sym (name-some _ _ _ (c .before .before .before .before .read .ensures) (search needs))
+returns-2 c = c .name-at .ensures ∙ ap (λ (n : ℕ). nameAt n (c .before .before .before .before .before .before .before .before .args .s .now)) (c .before .lines-before .ensures) ∙ sym (name-some _ _ _ (c .before .before .before .before .before .read .ensures) (search needs))
 
 pub job-name-spec : {M : Type 1} → statement M
 job-name-spec =
@@ -58,11 +40,6 @@ job-name-spec =
     cast-l
     slice-aggregate-result
     returns
-    add-name-at
-    mul-name-at
-    add-name-at-2
-    add-name-at-3
-    mul-name-at-2
-    add-name-at-4
+    lines-before-requires
     name-at-requires
     returns-2)

@@ -1,3 +1,4 @@
+-- The Q line is that of the name that stands in the J line, by the contract of the name.
 use mathlib.Core.Path.{ap}
 use native.Mathlib.Omega.{arith}
 use lib.ListN.{length}
@@ -15,13 +16,16 @@ second-field-requires c κs = search needs
 put-job-line-requires : tie.Need-put-job-line-requires
 put-job-line-requires c κs =
     let a = c .before .before .before .before .before in
-    (omega (arith, a .good), omega (arith, a .pre .1), omega (arith, a .pre .1), omega (arith, a .pre .1), omega (arith, ap length (c .before .second-field .ensures), a .pre .0 .1), a .pre .0 .2)
+    let w = a .pre in
+    (omega (arith, a .good), omega (arith, w), omega (arith, w), omega (arith, w), omega (arith, ap length (c .before .second-field .ensures), w .name), w .room)
 
 same-length : tie.Need-same-length
 same-length c = search needs
 
 returns : tie.Need-returns
-returns c = let v = c .before .before .put-job-line .ensures in (named-line _ _ _ _ _ _ _ _ _ _ (c .before .before .before .before .second-field .ensures) (v .0), v .1)
+returns c =
+    let v = c .before .before .put-job-line .ensures in
+    (named-line _ _ _ _ _ _ _ _ _ _ (c .before .before .before .before .second-field .ensures) (v .0), v .1)
 
 pub put-job-spec : {M : Type 1} → statement M
 put-job-spec =

@@ -1,6 +1,10 @@
+-- The words of a sheet that was read, or its refusal.
+use mathlib.Core.Path.{refl, _∙_}
 use native.Mathlib.Omega.{arith}
 use Rattle.sheet.proofs.Ranges.{reading-ranges}
-use Rattle.planner.proofs.Need.{need-below, words-refused, words-counted}
+use Rattle.planner.specs.Axes.{Lawful}
+use Rattle.planner.proofs.Axes.{need-any, need-below}
+use Rattle.planner.proofs.Need.{words-refused, words-counted}
 use borrow.Author.Needs.{needs}
 use Rattle.planner.proofs.count_words.Statement.{statement}
 use Rattle.planner.proofs.count_words.Tie as tie
@@ -17,17 +21,22 @@ code-of-requires c κs = search needs
 returns : tie.Need-returns
 returns c = (words-refused _ _ (c .before .before .read .ensures) _ (c .before .match .keys2) (c .code-of .ensures), omega arith)
 
+-- What was read is a sheet in its ranges.
+lawful : (c : tie.After-enum-told) → Lawful (c .before .before .read .result .head)
+lawful c = record { store = _; ranges = reading-ranges _ _ _ (c .before .before .read .ensures) (c .enum-told .given .1) }
+
 frame-of-requires : tie.Need-frame-of-requires
-frame-of-requires c κs = reading-ranges _ _ (c .before .before .read .ensures) (c .enum-told .given .1)
+frame-of-requires c κs = lawful c
 
 need-of-requires : tie.Need-need-of-requires
-need-of-requires c κs = (reading-ranges _ _ (c .before .before .before .read .ensures) (c .before .enum-told .given .1), c .frame-of .ensures)
+need-of-requires c κs = rw (c .frame-of .ensures) (lawful (c .before), refl)
 
 returns-2 : tie.Need-returns-2
 returns-2 c =
-    let e = c .before .before .before .before .read .ensures in
-    let m = c .before .before .enum-told .given .1 in
-    (words-counted _ _ e m _ (c .need-of .ensures), rw (c .need-of .ensures) (need-below _ (reading-ranges _ _ e m)))
+    let w = lawful (c .before .before) in
+    let h = c .before .before .before .before .read .result .head in
+    let k = rw (c .before .frame-of .ensures) at (c .need-of .ensures) in
+    (words-counted _ _ (c .before .before .before .before .read .ensures) (c .before .before .enum-told .given .1) _ (k ∙ need-any h _), rw k (need-below h (w .store) (w .ranges)))
 
 pub count-words-spec : {M : Type 1} → statement M
 count-words-spec =

@@ -1,7 +1,7 @@
-use mathlib.Core.Path.{refl}
+-- The equation by what was read, and the demands in words from it.
 use Rattle.sheet.proofs.Ranges.{reading-ranges}
 use Rattle.planner.proofs.Demands.{demands-hold}
-use Rattle.planner.proofs.Replies.{answers-read}
+use Rattle.planner.proofs.Order.{answers-read}
 use borrow.Author.Needs.{needs}
 use Rattle.planner.proofs.plan.Statement.{statement}
 use Rattle.planner.proofs.plan.Tie as tie
@@ -10,7 +10,7 @@ read-requires : tie.Need-read-requires
 read-requires c κs = search needs
 
 plan-read-requires : tie.Need-plan-read-requires
-plan-read-requires c κs = (refl, reading-ranges _ _ (c .before .before .before .before .read .ensures))
+plan-read-requires c κs = reading-ranges _ _ _ (c .before .before .before .read .ensures)
 
 same-length : tie.Need-same-length
 same-length c = search needs
@@ -19,7 +19,7 @@ same-length-2 : tie.Need-same-length-2
 same-length-2 c = search needs
 
 returns : tie.Need-returns
-returns c = let a = answers-read _ _ _ _ _ _ _ (c .before .before .before .before .before .before .before .before .before .read .ensures) (c .before .before .before .before .plan-read .ensures) in (a, demands-hold _ _ _ _ _ _ a)
+returns c = let a = answers-read _ _ _ _ _ _ _ (c .before .before .before .before .before .before .before .before .read .ensures) (c .before .before .before .before .plan-read .ensures) in (a, demands-hold _ _ _ _ _ _ a)
 
 pub plan-spec : {M : Type 1} → statement M
 plan-spec = tie.close (tie.spec read-requires plan-read-requires same-length same-length-2 returns)

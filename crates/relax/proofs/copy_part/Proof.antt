@@ -1,10 +1,13 @@
+-- One level's words more with each turn of the loop, until those of all levels are written.
 use mathlib.Core.Path.{refl}
 use Prim.Native.Nat.{ℕ, _+_, _*_, _-_, _≤_}
 use native.Mathlib.Nat.{le-antisymm}
 use native.Mathlib.Omega.{arith}
 use lib.ListN.{getD, length}
-use Rattle.relax.specs.Levels.{partSize, Levels}
-use Rattle.relax.proofs.Leveling.{level-end, levels-none, levels-more}
+use Rattle.one_level.specs.Level.{partSize}
+use Rattle.relax.specs.Levels.{Levels}
+use Rattle.open_ways.proofs.Moves.{level-end}
+use Rattle.relax.proofs.Leveling.{levels-none, levels-more}
 use Rattle.relax.proofs.copy_part.Statement.{statement}
 use Rattle.relax.proofs.copy_part.Tie as tie
 
@@ -19,33 +22,33 @@ loop-holds c = (omega arith, levels-none _ _ _ _ _ _ _ (λ p y h l g. absurd (om
 
 -- The words of the turn's level are in the table.
 inner : (c : tie.In-loop Inv-loop μ-loop) → let a = c .before .before .before .before .args in a .at + c .before .loop .p * a .cells + a .cells ≤ length (a .table .now)
-inner c = let a = c .before .before .before .before in omega (arith, level-end (c .before .loop .p) (a .args .levels) (a .args .cells) (c .loop-test .taken), a .pre .0 .0)
+inner c = let a = c .before .before .before .before in omega (arith, level-end (c .before .loop .p) (a .args .levels) (a .args .cells) (c .loop-test .taken), a .pre .0 .inside)
 
 mul-copy : tie.Need-mul-copy Inv-loop μ-loop
-mul-copy c = omega (arith, inner (c .before), c .before .before .before .before .before .pre .0 .1)
+mul-copy c = omega (arith, inner (c .before), c .before .before .before .before .before .pre .0 .small)
 
 add-copy : tie.Need-add-copy Inv-loop μ-loop
-add-copy c = omega (arith, inner (c .before), c .before .before .before .before .before .pre .0 .1)
+add-copy c = omega (arith, inner (c .before), c .before .before .before .before .before .pre .0 .small)
 
 add-copy-2 : tie.Need-add-copy-2 Inv-loop μ-loop
-add-copy-2 c = omega (arith, inner (c .before), c .before .before .before .before .before .pre)
+add-copy-2 c = let a = c .before .before .before .before .before in omega (arith, inner (c .before), a .pre .0 .small, a .pre .0 .inside, a .pre .1 .within)
 
 mul-copy-2 : tie.Need-mul-copy-2 Inv-loop μ-loop
-mul-copy-2 c = omega (arith, c .before .loop-test .taken, c .before .before .before .before .before .pre .1 .0)
+mul-copy-2 c = omega (arith, c .before .loop-test .taken, c .before .before .before .before .before .pre .0 .few)
 
 copy-requires : tie.Need-copy-requires Inv-loop μ-loop
 copy-requires c κs =
     let a = c .before .before .before .before .before in
-    (omega (arith, inner (c .before), a .pre .1, c .before .before .loop .inv .1 .long), omega (arith, c .before .loop-test .taken, a .pre))
+    (omega (arith, inner (c .before), a .pre .1 .within, c .before .before .loop .inv .1 .long), omega (arith, c .before .loop-test .taken, a .pre .0 .few, a .pre .0 .parts, a .pre .1 .fits))
 
 add-p : tie.Need-add-p Inv-loop μ-loop
-add-p c = omega (arith, c .before .before .before .before .loop-test .taken, c .before .before .before .before .before .before .before .before .pre .1 .0)
+add-p c = omega (arith, c .before .before .before .before .loop-test .taken, c .before .before .before .before .before .before .before .before .pre .0 .few)
 
 loop-less : tie.Need-loop-less Inv-loop μ-loop
 loop-less c = omega (arith, c .before .before .before .before .loop-test .taken)
 
 loop-again : tie.Need-loop-again Inv-loop μ-loop
-loop-again c = (omega (arith, c .before .before .before .before .loop-test .taken), levels-more (c .before .before .before .before .before .before .before .before .pre .1 .2) (c .before .before .before .before .before .loop .inv .1) (c .before .before .copy .ensures) (λ y. refl))
+loop-again c = (omega (arith, c .before .before .before .before .loop-test .taken), levels-more (c .before .before .before .before .before .before .before .before .pre .1 .within) (c .before .before .before .before .before .loop .inv .1) (c .before .before .copy .ensures) (λ y. refl))
 
 same-length : tie.Need-same-length Inv-loop μ-loop
 same-length c = c .before .loop .inv .1 .long

@@ -1,9 +1,12 @@
+-- One level's part more with each turn of the loop, until all levels have theirs.
+use mathlib.Core.Path.{refl}
 use Prim.Native.Nat.{ℕ, _+_, _-_, _≤_}
 use native.Mathlib.Nat.{le-antisymm}
 use native.Mathlib.Omega.{arith}
-use Rattle.runs.specs.Runs.{settled}
-use Rattle.relax.specs.Levels.{relaxedAt, Parted}
-use Rattle.relax.proofs.Leveling.{parted-none, parted-more}
+use Rattle.word.specs.Word.{settled}
+use Rattle.open_ways.specs.Moves.{relaxedAt}
+use Rattle.relax.specs.Levels.{Parted}
+use Rattle.relax.proofs.Leveling.{room-kept, parted-none, parted-more}
 use Rattle.relax.proofs.relax_part.Statement.{statement}
 use Rattle.relax.proofs.relax_part.Tie as tie
 
@@ -20,16 +23,16 @@ loop-holds c = (omega arith, parted-none _ _ _)
 relax-level-requires : tie.Need-relax-level-requires Inv-loop μ-loop
 relax-level-requires c κs =
     let a = c .before .before .before .before .before .before .before .before .pre in
-    (a .0, ((a .1 .0 .0, a .1 .0 .1, omega (arith, a .1 .0 .2, c .before .before .loop .inv .1 .long)), (c .before .loop-test .taken, a .1 .1 .0, a .1 .1 .1, a .1 .1 .2)))
+    (record { moves = a .0 .moves; room = room-kept refl (c .before .before .loop .inv .1 .long) (a .0 .room); lows = a .0 .lows }, a .1, c .before .loop-test .taken)
 
 add-p : tie.Need-add-p Inv-loop μ-loop
-add-p c = omega (arith, c .before .before .before .before .loop-test .taken, c .before .before .before .before .before .before .before .before .before .before .before .pre .0 .most)
+add-p c = omega (arith, c .before .before .before .before .loop-test .taken, c .before .before .before .before .before .before .before .before .before .before .before .pre .0 .room .few)
 
 loop-less : tie.Need-loop-less Inv-loop μ-loop
 loop-less c = omega (arith, c .before .before .before .before .loop-test .taken)
 
 loop-again : tie.Need-loop-again Inv-loop μ-loop
-loop-again c = (omega (arith, c .before .before .before .before .loop-test .taken), parted-more (c .before .before .before .before .before .before .before .before .before .before .before .pre .1 .1 .0) (c .before .before .before .before .before .loop .inv .1) (c .before .before .relax-level .ensures))
+loop-again c = (omega (arith, c .before .before .before .before .loop-test .taken), parted-more (c .before .before .before .before .before .before .before .before .before .before .before .pre .1 .fits) (c .before .before .before .before .before .loop .inv .1) (c .before .before .relax-level .ensures))
 
 same-length : tie.Need-same-length Inv-loop μ-loop
 same-length c = c .before .loop .inv .1 .long

@@ -1,11 +1,14 @@
+-- A part of every level more with each turn of the loop: what is still to be read stands behind what is written, and is as it was.
 use mathlib.Core.Path.{_≡_, refl, _∙_}
 use Prim.Native.Nat.{ℕ, _+_, _-_, _≤_, _<_}
 use native.Mathlib.Nat.{le-antisymm}
 use native.Mathlib.Omega.{arith}
 use lib.ListN.{length}
-use Rattle.runs.specs.Runs.{settled}
-use Rattle.relax.specs.Levels.{partSize, relaxedAt, Levels}
-use Rattle.relax.proofs.Leveling.{levels-none, levels-on, lows-kept}
+use Rattle.word.specs.Word.{settled}
+use Rattle.open_ways.specs.Moves.{relaxedAt}
+use Rattle.one_level.specs.Level.{Part}
+use Rattle.relax.specs.Levels.{Levels}
+use Rattle.relax.proofs.Leveling.{room-kept, levels-none, levels-on, lows-kept}
 use borrow.Author.Needs.{needs}
 use Rattle.relax.proofs.relax_words.Statement.{statement}
 use Rattle.relax.proofs.relax_words.Tie as tie
@@ -29,37 +32,36 @@ fewest-requires : tie.Need-fewest-requires Inv-loop μ-loop
 fewest-requires c κs = search needs
 
 -- The run of the turn: some words, no more than a part has, and all of them the level's.
-run-some : (c : tie.After-fewest Inv-loop μ-loop) → (0 < c .fewest .result) × (c .fewest .result ≤ partSize) × (c .before .before .loop .x + c .fewest .result ≤ c .before .before .before .before .before .before .before .before .args .cells)
-run-some c = (omega (arith, c .fewest .ensures, c .before .loop-test .taken), omega (arith, c .fewest .ensures), omega (arith, c .fewest .ensures, c .before .loop-test .taken))
+run-some : (c : tie.After-fewest Inv-loop μ-loop) → (0 < c .fewest .result) × Part (c .before .before .before .before .before .before .before .before .args .cells) (c .before .before .loop .x) (c .fewest .result)
+run-some c =
+    let n = c .fewest .ensures in
+    let h = c .before .loop-test .taken in
+    (omega (arith, n, h), record { fits = omega (arith, n); within = omega (arith, n, h) })
 
 relax-part-requires : tie.Need-relax-part-requires Inv-loop μ-loop
 relax-part-requires c κs =
     let a = c .before .before .before .before .before .before .before .before .before .before .pre in
-    let l = c .before .before .before .before .loop in
-    let r = run-some (c .before .before) in
-    let same = l .inv .2 .long in
-    (a .0, ((omega (arith, a .1 .0, same), omega (arith, a .1 .1, same), omega (arith, a .1 .2, l .inv .1)), (r .1, omega (arith, r .2), lows-kept (l .inv .2) (a .1 .3))))
+    let l = c .before .before .before .before .loop .inv in
+    (record { moves = a .moves; room = room-kept (l .2 .long) (l .1) (a .room); lows = lows-kept (l .2) (a .lows) }, run-some (c .before .before) .1)
 
 copy-part-requires : tie.Need-copy-part-requires Inv-loop μ-loop
 copy-part-requires c κs =
     let a = c .before .before .before .before .before .before .before .before .before .before .before .before .before .before .before .pre in
-    let l = c .before .before .before .before .before .before .before .before .before .loop in
-    let r = run-some (c .before .before .before .before .before .before .before) in
-    let same = l .inv .2 .long in
-    ((omega (arith, a .1 .0, same), omega (arith, a .1 .1, same), omega (arith, a .1 .2, l .inv .1, c .before .before .before .before .relax-part .ensures .long)), (a .0 .most, r .1, omega (arith, r .2)))
+    let l = c .before .before .before .before .before .before .before .before .before .loop .inv in
+    (room-kept (l .2 .long) (c .before .before .before .before .relax-part .ensures .long ∙ l .1) (a .room), run-some (c .before .before .before .before .before .before .before) .1)
 
 add-x : tie.Need-add-x Inv-loop μ-loop
-add-x c = omega (arith, run-some (c .before .before .before .before .before .before .before .before .before .before) .2, c .before .before .before .before .before .before .before .before .before .before .before .before .before .before .before .before .before .before .fits)
+add-x c = omega (arith, run-some (c .before .before .before .before .before .before .before .before .before .before) .1 .within, c .before .before .before .before .before .before .before .before .before .before .before .before .before .before .before .before .before .before .fits)
 
 loop-less : tie.Need-loop-less Inv-loop μ-loop
-loop-less c = omega (arith, run-some (c .before .before .before .before .before .before .before .before .before .before))
+loop-less c = let r = run-some (c .before .before .before .before .before .before .before .before .before .before) in omega (arith, r .0, r .1 .within)
 
 loop-again : tie.Need-loop-again Inv-loop μ-loop
 loop-again c =
-    let l = c .before .before .before .before .before .before .before .before .before .before .before .before .loop in
-    let r = run-some (c .before .before .before .before .before .before .before .before .before .before) in
+    let l = c .before .before .before .before .before .before .before .before .before .before .before .before .loop .inv in
+    let within = run-some (c .before .before .before .before .before .before .before .before .before .before) .1 .within in
     let parted = c .before .before .before .before .before .before .before .relax-part .ensures in
-    (r .2, parted .long ∙ l .inv .1, levels-on (l .inv .2) (c .before .before .before .before .before .before .before .before .before .before .before .before .before .before .before .before .before .before .pre .0) _ _ _ _ (r .2) (λ p y. refl) parted (c .before .before .copy-part .ensures))
+    (within, parted .long ∙ l .1, levels-on (l .2) (c .before .before .before .before .before .before .before .before .before .before .before .before .before .before .before .before .before .before .pre .moves) _ _ _ _ within (λ p y. refl) parted (c .before .before .copy-part .ensures))
 
 same-length : tie.Need-same-length Inv-loop μ-loop
 same-length c = c .before .loop .inv .2 .long

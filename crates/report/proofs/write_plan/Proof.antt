@@ -1,3 +1,4 @@
+-- The four ways out, by the laws of `proofs/Told.antt`: a refusal, a part that is too short, no plan, a plan.
 use mathlib.Core.Path.{_≡_, refl, ap, _∙_}
 use native.Mathlib.Decide.{decLt}
 use native.Mathlib.Omega.{arith}
@@ -5,12 +6,13 @@ use lib.ListN.{replicate}
 use denote.Ref.{now}
 use Prim.Native.Nat.{_≤_, _<_}
 use mathlib.Core.Logic.{⊎-elim}
-use Rattle.sheet.specs.declared.Reading.{Reading}
+use Rattle.store.specs.Store.{jobsMax}
+use Rattle.sheet.specs.Reading.{SheetRead}
 use Rattle.sheet.proofs.Ranges.{reading-ranges}
-use Rattle.planner.specs.Answer.{Answers}
-use Rattle.planner.proofs.Replies.{answers-read}
-use Rattle.report.specs.Report.{answerIn}
-use Rattle.report.proofs.Told.{read-wrote, read-jobs, ranges-jobs, Told, answer-told, told-refused, told-narrow, told-none, told-read, told-levels, told-plan}
+use Rattle.reply.specs.Answer.{Answers}
+use Rattle.planner.proofs.Order.{answers-read}
+use Rattle.report.specs.Report.{tableWords, answerIn}
+use Rattle.report.proofs.Told.{read-wrote, read-jobs, read-handed, read-few, Told, answer-told, told-refused, told-narrow, told-none, told-read, told-levels, told-plan}
 use borrow.Author.Needs.{needs}
 use Rattle.report.proofs.write_plan.Statement.{statement}
 use Rattle.report.proofs.write_plan.Tie as tie
@@ -25,20 +27,20 @@ slice-aggregate-plan-read-2 : tie.Need-slice-aggregate-plan-read-2
 slice-aggregate-plan-read-2 c = search needs
 
 plan-read-requires : tie.Need-plan-read-requires
-plan-read-requires c κs = (refl, reading-ranges _ _ (c .before .before .before .before .read .ensures))
+plan-read-requires c κs = reading-ranges _ _ _ (c .before .before .before .read .ensures)
 
 refuse-requires : tie.Need-refuse-requires
 refuse-requires c κs = search needs
 
 -- The planner's answer, with the table and the part inside the call.
 answered : (c : tie.After-plan-read) → let s = now (c .before .before .before .before .before .before .before .before .args .s) in
-    Answers (answerIn s) (replicate 16384 0) (c .plan-read .last .1 .1 .0) (replicate 64 0) (c .plan-read .last .1 .1 .1 .0) (c .plan-read .result)
+    Answers (answerIn s) (replicate tableWords 0) (c .plan-read .last .1 .1 .0) (replicate jobsMax 0) (c .plan-read .last .1 .1 .1 .0) (c .plan-read .result)
 unfolding answerIn
-answered c = answers-read _ _ _ _ _ _ _ (c .before .before .before .before .before .read .ensures) (c .plan-read .ensures)
+answered c = answers-read _ _ _ _ _ _ _ (c .before .before .before .before .read .ensures) (c .plan-read .ensures)
 
 told : (c : tie.After-plan-read) → let s = now (c .before .before .before .before .before .before .before .before .args .s) in Told s (answerIn s)
 unfolding answerIn
-told c = answer-told _ 16384
+told c = answer-told _ tableWords
 
 returns : tie.Need-returns
 returns c = told-refused _ _ _ _ _ _ _ (answerIn _) (told (c .before .before .before .before .before)) (answered (c .before .before .before .before .before)) (c .before .before .if1 .taken) (c .before .if2 .taken) _ (c .refuse .ensures)
@@ -71,31 +73,31 @@ plan-is c =
     ]
 
 put-plan-requires : tie.Need-put-plan-requires
-put-plan-requires c κs =
-    let e = c .before .before .before .before .before .before .before .before .before .before .before .before .before .before .read .ensures in
-    let z = plan-is (c .before .before .before .before) in
-    let a = c .before .before .before .before .before .before .before .before .before .before .before .before .before .before .before .before .before .args in
+put-plan-requires c κs = let e = c .before .before .before .before .before .before .before .before .before .before .before .before .read .ensures in
+    let z = plan-is (c .before .before .before) in
+    let a = c .before .before .before .before .before .before .before .before .before .before .before .before .before .before .before .before .args in
     let s = now (a .s) in
-    let w = told (c .before .before .before .before .before .before .before .before .before) in
-    let v = answered (c .before .before .before .before .before .before .before .before .before) in
+    let w = told (c .before .before .before .before .before .before .before .before) in
+    let v = answered (c .before .before .before .before .before .before .before .before) in
     let m = told-read s (now (a .text)) _ _ _ _ _ z (answerIn _) w v in
-    let r = ap (λ (x : Reading). x .refusal) e ∙ m in
-    let k = ranges-jobs s _ e r in (
-      refl,
-      (
-        (e, r),
-        (omega (arith, k, c .before .before .before .before .before .before .before .before .before .plan-read .kept .1 .1 .1 .0), λ i h. told-levels s (now (a .text)) _ _ _ _ _ z (answerIn _) w v i (omega (arith, h, read-jobs s _ e)), c .before .before .before .before .before .if3 .left),
-      ),
-    )
+    let r = ap (λ (x : SheetRead). x .refusal) e ∙ m in
+    record {
+      handed =
+          record {
+            read = read-handed s _ e r;
+            each = omega (arith, read-few s _ e r, c .before .before .before .before .before .before .before .before .plan-read .kept .1 .1 .1 .0);
+            below = λ i h. told-levels s (now (a .text)) _ _ _ _ _ z (answerIn _) w v i (omega (arith, h, read-jobs s _ e));
+          };
+      room = c .before .before .before .before .if3 .left;
+    }
 
 same-length : tie.Need-same-length
 same-length c = search needs
 
 returns-4 : tie.Need-returns-4
-returns-4 c =
-    let e = c .before .before .before .before .before .before .before .before .before .before .before .before .before .before .before .before .before .read .ensures in
+returns-4 c = let e = c .before .before .before .before .before .before .before .before .before .before .before .before .before .before .before .read .ensures in
     let p = c .before .before .put-plan .ensures in
-    told-plan _ _ _ _ _ _ _ (plan-is (c .before .before .before .before .before .before .before)) (answerIn _) (told (c .before .before .before .before .before .before .before .before .before .before .before .before)) (answered (c .before .before .before .before .before .before .before .before .before .before .before .before)) (c .before .before .before .before .before .before .before .before .if3 .left) _ _ _ (p .1) (read-wrote _ _ _ _ _ _ e (p .0)) refl
+    told-plan _ _ _ _ _ _ _ (plan-is (c .before .before .before .before .before .before)) (answerIn _) (told (c .before .before .before .before .before .before .before .before .before .before .before)) (answered (c .before .before .before .before .before .before .before .before .before .before .before)) (c .before .before .before .before .before .before .before .if3 .left) _ _ _ (p .1) (read-wrote _ _ e _ _ _ _ (p .0)) refl
 
 pub write-plan-spec : {M : Type 1} → statement M
 write-plan-spec =

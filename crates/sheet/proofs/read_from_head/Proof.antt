@@ -1,20 +1,21 @@
+-- The H line and what follows it, by the laws of `proofs/Head.antt`, test by test.
 use mathlib.Core.Path.{ap, _∙_}
 use native.Mathlib.Omega.{arith}
-use borrow.Author.Needs.{needs}
 use Rattle.text.proofs.Scanned.{line-tabs, line-from}
-use Rattle.sheet.specs.Reading.{refusedAs}
-use Rattle.sheet.proofs.Head.{from-head-missing, from-head-fault, from-head-hot, from-head-on, head-counts}
+use Rattle.sheet.specs.Reading.{refusedRead}
+use Rattle.sheet.proofs.Head.{refused-clear, from-head-missing, from-head-fault, from-head-hot, from-head-on, head-counts}
+use borrow.Author.Needs.{needs}
 use Rattle.sheet.proofs.read_from_head.Statement.{statement}
 use Rattle.sheet.proofs.read_from_head.Tie as tie
 
 scan-line-requires : tie.Need-scan-line-requires
 scan-line-requires c κs = search needs
 
-refused-requires : tie.Need-refused-requires
-refused-requires c κs = search needs
+refuse-requires : tie.Need-refuse-requires
+refuse-requires c κs = search needs
 
 returns : tie.Need-returns
-returns c = c .refused .ensures ∙ from-head-missing _ _ _ (c .before .before .scan-line .ensures) (search needs) (search needs)
+returns c = refused-clear _ _ _ (c .refuse .ensures) (c .before .before .before .before .pre .0) ∙ from-head-missing _ _ _ _ (c .before .before .scan-line .ensures) (search needs) (search needs)
 
 read-head-requires : tie.Need-read-head-requires
 read-head-requires c κs = let z = c .before .scan-line .ensures in (line-from z, z .within, line-tabs z)
@@ -25,11 +26,11 @@ enum-told c = search needs
 as-refusal-requires : tie.Need-as-refusal-requires
 as-refusal-requires c κs = search needs
 
-refused-requires-2 : tie.Need-refused-requires-2
-refused-requires-2 c κs = search needs
+refuse-requires-2 : tie.Need-refuse-requires-2
+refuse-requires-2 c κs = search needs
 
 returns-2 : tie.Need-returns-2
-returns-2 c = c .refused2 .ensures ∙ ap refusedAs (c .before .as-refusal .ensures) ∙ from-head-fault _ _ _ (c .before .before .before .before .before .scan-line .ensures) (search needs) _ (c .before .before .before .read-head .ensures) (c .before .before .match .keys2)
+returns-2 c = refused-clear _ _ _ (c .refuse2 .ensures) (c .before .before .before .before .before .before .before .pre .0) ∙ ap refusedRead (c .before .as-refusal .ensures) ∙ from-head-fault _ _ _ _ (c .before .before .before .before .before .scan-line .ensures) (search needs) _ (c .before .before .before .read-head .ensures) (c .before .before .match .keys2)
 
 array-read-if2 : tie.Need-array-read-if2
 array-read-if2 c = search needs
@@ -37,39 +38,38 @@ array-read-if2 c = search needs
 array-read-if2-2 : tie.Need-array-read-if2-2
 array-read-if2-2 c = search needs
 
-refused-requires-3 : tie.Need-refused-requires-3
-refused-requires-3 c κs = search needs
+refuse-requires-3 : tie.Need-refuse-requires-3
+refuse-requires-3 c κs = search needs
 
 returns-3 : tie.Need-returns-3
-returns-3 c = c .refused3 .ensures ∙ from-head-hot _ _ _ (c .before .before .before .before .before .before .before .scan-line .ensures) (search needs) _ (c .before .before .before .before .before .read-head .ensures) (c .before .before .before .enum-told .given .1) (c .before .if2 .taken)
+returns-3 c = refused-clear _ _ _ (c .refuse3 .ensures) (c .before .before .before .before .before .before .before .before .before .pre .0) ∙ from-head-hot _ _ _ _ (c .before .before .before .before .before .before .before .scan-line .ensures) (search needs) _ (c .before .before .before .before .before .read-head .ensures) (c .before .before .before .enum-told .given .1) (c .before .if2 .taken)
 
 add-read-figures : tie.Need-add-read-figures
 add-read-figures c = search needs
 
 read-figures-requires : tie.Need-read-figures-requires
-read-figures-requires c κs =
-    let m = head-counts _ _ _ (c .before .before .before .before .before .before .scan-line .ensures) (search needs) _ (c .before .before .before .before .read-head .ensures) (c .before .before .enum-told .given .1) in
-    let z = c .before .before .before .before .before .before .scan-line .ensures in
-    (omega (arith, z .within, c .before .before .before .before .before .if1 .left), m .0, m .1)
+read-figures-requires c κs = let z = c .before .before .before .before .before .before .before .scan-line .ensures in
+    let m = head-counts _ _ (c .before .before .before .before .before .read-head .ensures) (c .before .before .before .enum-told .given .1) in
+    (c .before .before .before .before .before .before .before .before .before .pre .0, (omega (arith, z .within, c .before .before .before .before .before .before .if1 .left), m .0, m .1))
 
 returns-4 : tie.Need-returns-4
-returns-4 c = c .read-figures .ensures ∙ from-head-on _ _ _ (c .before .before .before .before .before .before .before .scan-line .ensures) (search needs) _ (c .before .before .before .before .before .read-head .ensures) (c .before .before .before .enum-told .given .1) (c .before .if2 .left)
+returns-4 c = c .read-figures .ensures ∙ from-head-on _ _ _ _ (c .before .before .before .before .before .before .before .before .scan-line .ensures) (search needs) _ (c .before .before .before .before .before .before .read-head .ensures) (c .before .before .before .before .enum-told .given .1) (c .before .before .if2 .left)
 
 pub read-from-head-spec : {M : Type 1} → statement M
 read-from-head-spec =
     tie.close
     (tie.spec
     scan-line-requires
-    refused-requires
+    refuse-requires
     returns
     read-head-requires
     enum-told
     as-refusal-requires
-    refused-requires-2
+    refuse-requires-2
     returns-2
     array-read-if2
     array-read-if2-2
-    refused-requires-3
+    refuse-requires-3
     returns-3
     add-read-figures
     read-figures-requires

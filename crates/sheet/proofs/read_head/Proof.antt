@@ -4,8 +4,8 @@ use Prim.Native.Nat.{ℕ}
 use borrow.Author.Needs.{needs}
 use borrow.Author.Tests.{not-true, not-false}
 use Rattle.text.specs.Text.{part}
-use Rattle.rows.specs.Row.{opens, numbersFrom}
-use Rattle.rows.proofs.Row.{opens-some}
+use Rattle.fields.specs.Fields.{opens, numbersFrom}
+use Rattle.fields.proofs.Fields.{opens-some}
 use Rattle.sheet.specs.Reading.{headLos, headHis}
 use Rattle.sheet.proofs.Head.{head-shape, head-other, head-rest}
 use Rattle.sheet.proofs.read_head.Statement.{statement}

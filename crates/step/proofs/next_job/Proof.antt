@@ -1,3 +1,4 @@
+-- A step is `Run::after` on the figures that the two look-ups give: they are the sheet's, as the store holds them.
 use Rattle.step.proofs.Store.{figures-of, bounds}
 use borrow.Author.Needs.{needs}
 use Rattle.step.proofs.next_job.Statement.{statement}

@@ -1,24 +1,20 @@
-use mathlib.Core.Path.{_≡_}
+-- The run of a list is the definition's, by an invariant of what is run and what is left (`Levels`).
 use Prim.Native.Nat.{_-_}
-use native.Mathlib.Omega.{arith}
 use Rattle.frame.specs.Sheet.{Sheet, Ranges}
-use Rattle.frame.specs.Run.{start}
-use Rattle.run.specs.Run.{stateOf}
 use Rattle.step.specs.Store.{Stored}
-use Rattle.step.proofs.Store.{rests}
-use Rattle.step.proofs.Levels.{going-start, going-next, going-end, Going}
+use Rattle.step.proofs.Levels.{Going, going-start, going-rests, going-next, going-end}
 use borrow.Author.Needs.{needs}
 use Rattle.step.proofs.run_levels.Statement.{statement}
 use Rattle.step.proofs.run_levels.Tie as tie
 
 abbrev Inv-loop : tie.InvT-loop
-Inv-loop figures steady levels n run₀ i₀ run i = (s : Sheet) → Ranges s → Stored s figures steady → stateOf run₀ ≡ start s → Going s levels n run i
+Inv-loop store steady levels n run₀ i₀ run i = (s : Sheet) → Ranges s → Stored s store steady → Going s run₀ levels n run i
 
 abbrev μ-loop : tie.MeasureT-loop
-μ-loop figures steady levels n run₀ i₀ run i = n - i
+μ-loop store steady levels n run₀ i₀ run i = n - i
 
 loop-holds : tie.Need-loop-holds Inv-loop μ-loop
-loop-holds c = λ s r h e. going-start s _ _ _ r e
+loop-holds c = λ s r h. going-start (c .before .pre .0) s _
 
 shared-slice-read-next-job : tie.Need-shared-slice-read-next-job Inv-loop μ-loop
 shared-slice-read-next-job c = search needs
@@ -31,8 +27,7 @@ next-job-requires c κs =
     let p = c .before .before .before .before .pre in
     let l = c .before .before .loop in
     let b = p .0 in
-    let g = l .inv (b .sheet) (b .ranges) (b .stored) (b .start) in
-    rests (b .stored) _ _ (b .ranges) (omega (arith, g .small .done, g .most, p .1, c .before .loop-test .taken)) (g .level) (p .1 .2 (l .i) (search needs)) (omega (arith, g .small .time, g .most, p .1)) (omega (arith, g .small .energy, g .most, p .1)) (omega (arith, g .small .temperature))
+    going-rests b (b .sheet) _ (l .inv (b .sheet) (b .ranges) (b .stored)) (c .before .loop-test .taken) _ (p .1 .1 (l .i) (search needs))
 
 add-i : tie.Need-add-i Inv-loop μ-loop
 add-i c = search needs
@@ -41,13 +36,15 @@ loop-less : tie.Need-loop-less Inv-loop μ-loop
 loop-less c = search needs
 
 loop-again : tie.Need-loop-again Inv-loop μ-loop
-loop-again c = λ s r h e.
-    let p = c .before .before .before .before .before .pre .1 in
+loop-again c = λ s r h.
+    let p = c .before .before .before .before .before .pre in
     let l = c .before .before .before .loop in
-    going-next _ r (p .1) (search needs) (p .2 (l .i) (search needs)) (c .next-job .ensures s h) (l .inv s r h e)
+    going-next (p .0) s _ (l .inv s r h) _ r (p .1 .0) (search needs) (p .1 .1 (l .i) (search needs)) (c .next-job .ensures s h)
 
 returns : tie.Need-returns Inv-loop μ-loop
-returns c = λ s r h e. going-end (c .before .before .before .pre .1 .1) (search needs) (c .before .loop .inv s r h e)
+returns c = λ s r h.
+    let p = c .before .before .before .pre in
+    going-end (p .0) s _ (c .before .loop .inv s r h) (p .1 .0) (search needs)
 
 pub run-levels-spec : {M : Type 1} → statement M
 run-levels-spec = tie.close (tie.spec Inv-loop μ-loop loop-holds shared-slice-read-next-job cast-next-job next-job-requires add-i loop-less loop-again returns)

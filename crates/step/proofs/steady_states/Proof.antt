@@ -1,20 +1,25 @@
+-- The steady-state temperatures are the definition's, by an invariant of the levels worked out (`Store`).
 use mathlib.Core.Path.{ap}
 use mathlib.Core.List.{List}
 use Prim.Native.Nat.{ℕ, _-_}
 use native.Mathlib.Omega.{arith}
+use Rattle.store.specs.Store.{levelsMax}
 use Rattle.step.proofs.Store.{Worked, worked-none, worked-more, worked-all}
 use borrow.Author.Needs.{needs}
 use Rattle.step.proofs.steady_states.Statement.{statement}
 use Rattle.step.proofs.steady_states.Tie as tie
 
 abbrev Inv-loop : tie.InvT-loop
-Inv-loop figures resistance levels₀ j₀ levels j = Worked figures resistance levels j
+Inv-loop store resistance levels₀ j₀ levels j = Worked store resistance levels j
 
 abbrev μ-loop : tie.MeasureT-loop
-μ-loop figures resistance levels₀ j₀ levels j = 8 - j
+μ-loop store resistance levels₀ j₀ levels j = levelsMax - j
 
 loop-holds : tie.Need-loop-holds Inv-loop μ-loop
 loop-holds c = worked-none _ _
+
+add-steady-state : tie.Need-add-steady-state Inv-loop μ-loop
+add-steady-state c = search needs
 
 mul-steady-state : tie.Need-mul-steady-state Inv-loop μ-loop
 mul-steady-state c = search needs
@@ -53,6 +58,7 @@ steady-states-spec =
     Inv-loop
     μ-loop
     loop-holds
+    add-steady-state
     mul-steady-state
     element-copy-out-steady-state
     steady-state-requires

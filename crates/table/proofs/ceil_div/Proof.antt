@@ -1,3 +1,4 @@
+-- The quotient is the definition's, and nothing overflows in 32 bits.
 use Rattle.thermal.specs.Rounding.{ceilDiv}
 use borrow.Author.Needs.{needs}
 use Rattle.table.proofs.ceil_div.Statement.{statement}

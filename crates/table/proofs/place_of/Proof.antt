@@ -1,8 +1,9 @@
+-- The place is the definition's, by what the two quotients give; no part of it overflows, as none is larger than the whole.
 use mathlib.Core.Path.{_≡_}
 use Prim.Native.Nat.{ℕ, _+_, _*_, _<_}
 use native.Mathlib.Nat.{le-mul-of-pos-right}
 use native.Mathlib.Omega.{arith}
-use Rattle.table.specs.Table.{placeBy}
+use Rattle.table.specs.Table.{wordsMax, placeBy}
 use borrow.Author.Needs.{needs}
 use Rattle.table.proofs.place_of.Statement.{statement}
 use Rattle.table.proofs.place_of.Tie as tie
@@ -36,7 +37,7 @@ abbrev start : tie.After-ceil-div2 → tie.Start
 start c = c .before .before .before .before
 
 abbrev job-level : tie.After-ceil-div2 → ℕ
-job-level c = start c .args .b .done * start c .args .f .levels + start c .args .b .level
+job-level c = start c .args .b .done * start c .args .f .head .levels + start c .args .b .level
 
 abbrev energy-row : tie.After-ceil-div2 → ℕ
 energy-row c = job-level c * start c .args .f .«energy_cells» + c .before .before .ceil-div .result
@@ -46,11 +47,11 @@ unfolding placeBy
 is-place c = cc (c .before .before .ceil-div .ensures, c .ceil-div2 .ensures)
 
 parts : (c : tie.After-ceil-div2) →
-    (job-level c < 4194304) × (energy-row c < 4194304) × (energy-row c * start c .args .f .«temperature_cells» + c .ceil-div2 .result < 4194304)
+    (job-level c < wordsMax) × (energy-row c < wordsMax) × (energy-row c * start c .args .f .«temperature_cells» + c .ceil-div2 .result < wordsMax)
 parts c =
     let s = start c .pre in
-    let w : energy-row c * start c .args .f .«temperature_cells» + c .ceil-div2 .result < 4194304 = omega (arith, is-place c, s .1) in
-    let o : energy-row c < 4194304 = omega (arith, w, le-mul-of-pos-right (energy-row c) (s .0 .temperature-cells)) in
+    let w : energy-row c * start c .args .f .«temperature_cells» + c .ceil-div2 .result < wordsMax = omega (arith, is-place c, s .1) in
+    let o : energy-row c < wordsMax = omega (arith, w, le-mul-of-pos-right (energy-row c) (s .0 .temperature-cells)) in
     (omega (arith, o, le-mul-of-pos-right (job-level c) (s .0 .energy-cells)), o, w)
 
 mul-row : tie.Need-mul-row

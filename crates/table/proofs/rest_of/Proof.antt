@@ -1,3 +1,4 @@
+-- The word is that of the run's cell, and 0 after the last job: the two cases of the definition.
 use borrow.Author.Needs.{needs}
 use native.Mathlib.Omega.{arith}
 use mathlib.Core.Path.{sym, ap, _∙_}

@@ -1,3 +1,4 @@
+-- `scan_line` ends at the line's end with its bytes 9 counted: `Scanned` holds of what was passed, and each byte adds to it.
 use Prim.Native.Nat.{_-_}
 use mathlib.Core.Logic.{⊎-elim}
 use lib.ListN.{length}

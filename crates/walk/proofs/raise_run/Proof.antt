@@ -1,9 +1,11 @@
+-- The two products are the raised values, and fit 32 bits: a raised value is less than one step more.
 use mathlib.Core.Path.{_≡_, ap, ap₂, _∙_}
 use Prim.Native.Nat.{ℕ, _*_, _≤_}
 use native.Mathlib.Omega.{arith}
 use Rattle.thermal.specs.Rounding.{raise}
 use Rattle.thermal.proofs.Rounding.{raise-le}
 use Rattle.frame.specs.Run.{fresh}
+use Rattle.table.specs.Table.{raisedEnergyMax}
 use borrow.Author.Needs.{needs}
 use Rattle.walk.proofs.raise_run.Statement.{statement}
 use Rattle.walk.proofs.raise_run.Tie as tie
@@ -15,19 +17,19 @@ ceil-div-requires : tie.Need-ceil-div-requires
 ceil-div-requires c κs = search needs
 
 -- What the two calls give, times the step, is the raised value: below 4,000,000,000.
-raised-energy : (c : tie.After-ceil-div) → let a = c .before .before .args in c .ceil-div .result * a .f .«energy_step» ≡ raise (a .f .«energy_step») (a .b .energy)
+raised-energy : (c : tie.After-ceil-div) → let a = c .before .before .args in c .ceil-div .result * a .f .head .«energy_step» ≡ raise (a .f .head .«energy_step») (a .b .energy)
 unfolding raise
-raised-energy c = ap (λ (q : ℕ). q * c .before .before .args .f .«energy_step») (c .ceil-div .ensures)
+raised-energy c = ap (λ (q : ℕ). q * c .before .before .args .f .head .«energy_step») (c .ceil-div .ensures)
 
-small-energy : (c : tie.After-ceil-div) → c .ceil-div .result * c .before .before .args .f .«energy_step» ≤ 4000000000
-small-energy c = let a = c .before .before in omega (arith, raised-energy c, raise-le (a .args .f .«energy_step») (a .args .b .energy), a .pre)
+small-energy : (c : tie.After-ceil-div) → c .ceil-div .result * c .before .before .args .f .head .«energy_step» ≤ raisedEnergyMax
+small-energy c = let a = c .before .before in omega (arith, raised-energy c, raise-le (a .args .f .head .«energy_step») (a .args .b .energy), a .pre)
 
-raised-temperature : (c : tie.After-ceil-div2) → let a = c .before .before .before .before .before .args in c .ceil-div2 .result * a .f .«temperature_step» ≡ raise (a .f .«temperature_step») (a .b .temperature)
+raised-temperature : (c : tie.After-ceil-div2) → let a = c .before .before .before .before .before .args in c .ceil-div2 .result * a .f .head .«temperature_step» ≡ raise (a .f .head .«temperature_step») (a .b .temperature)
 unfolding raise
-raised-temperature c = ap (λ (q : ℕ). q * c .before .before .before .before .before .args .f .«temperature_step») (c .ceil-div2 .ensures)
+raised-temperature c = ap (λ (q : ℕ). q * c .before .before .before .before .before .args .f .head .«temperature_step») (c .ceil-div2 .ensures)
 
-small-temperature : (c : tie.After-ceil-div2) → c .ceil-div2 .result * c .before .before .before .before .before .args .f .«temperature_step» ≤ 4000000000
-small-temperature c = let a = c .before .before .before .before .before in omega (arith, raised-temperature c, raise-le (a .args .f .«temperature_step») (a .args .b .temperature), a .pre)
+small-temperature : (c : tie.After-ceil-div2) → c .ceil-div2 .result * c .before .before .before .before .before .args .f .head .«temperature_step» ≤ raisedEnergyMax
+small-temperature c = let a = c .before .before .before .before .before in omega (arith, raised-temperature c, raise-le (a .args .f .head .«temperature_step») (a .args .b .temperature), a .pre)
 
 mul-energy : tie.Need-mul-energy
 mul-energy c = omega (arith, small-energy (c .before))

@@ -1,7 +1,10 @@
-use mathlib.Core.Path.{sym}
+-- As many places as the test says hold every way, so that the least by them is that by all ways.
+use mathlib.Core.Path.{sym, ap}
+use native.Mathlib.Omega.{arith}
 use borrow.Author.Needs.{needs}
-use Rattle.runs.proofs.Running.{runs-as}
-use Rattle.ways.proofs.Slots.{none-open}
+use Rattle.word.specs.Word.{settled}
+use Rattle.spans.proofs.Stepping.{spans-as}
+use Rattle.least_way.proofs.Places.{none-open, all-ways}
 use Rattle.ways.proofs.take_span.Statement.{statement}
 use Rattle.ways.proofs.take_span.Tie as tie
 
@@ -12,7 +15,7 @@ same-length : tie.Need-same-length
 same-length c = search needs
 
 returns : tie.Need-returns
-returns c = runs-as (c .before .before .set .ensures) (λ q l. rw (c .before .before .before .before .if1 .taken) (sym (none-open _ _ _ q)))
+returns c = spans-as (c .before .before .set .ensures) (λ q l. rw (c .before .before .before .before .if1 .taken) (sym (none-open _ _ _ 0 q)))
 
 by-two-requires : tie.Need-by-two-requires
 by-two-requires c κs = search needs
@@ -21,7 +24,7 @@ same-length-2 : tie.Need-same-length-2
 same-length-2 c = search needs
 
 returns-2 : tie.Need-returns-2
-returns-2 c = search needs
+returns-2 c = spans-as (c .before .before .by-two .ensures) (λ q l. ap settled (all-ways _ _ _ _ q 2 (omega (arith, c .before .before .before .before .before .if1 .left)) (c .before .before .before .before .if2 .taken)))
 
 by-four-requires : tie.Need-by-four-requires
 by-four-requires c κs = search needs
@@ -30,7 +33,7 @@ same-length-3 : tie.Need-same-length-3
 same-length-3 c = search needs
 
 returns-3 : tie.Need-returns-3
-returns-3 c = search needs
+returns-3 c = spans-as (c .before .before .by-four .ensures) (λ q l. ap settled (all-ways _ _ _ _ q 4 (omega (arith, c .before .before .before .before .before .before .if1 .left)) (c .before .before .before .before .if3 .taken)))
 
 by-six-requires : tie.Need-by-six-requires
 by-six-requires c κs = search needs
@@ -39,7 +42,7 @@ same-length-4 : tie.Need-same-length-4
 same-length-4 c = search needs
 
 returns-4 : tie.Need-returns-4
-returns-4 c = search needs
+returns-4 c = spans-as (c .before .before .by-six .ensures) (λ q l. ap settled (all-ways _ _ _ _ q 6 (omega (arith, c .before .before .before .before .before .before .before .if1 .left)) (c .before .before .before .before .if4 .taken)))
 
 by-eight-requires : tie.Need-by-eight-requires
 by-eight-requires c κs = search needs
@@ -48,7 +51,7 @@ same-length-5 : tie.Need-same-length-5
 same-length-5 c = search needs
 
 returns-5 : tie.Need-returns-5
-returns-5 c = search needs
+returns-5 c = spans-as (c .before .before .by-eight .ensures) (λ q l. ap settled (all-ways _ _ _ _ q 8 (omega (arith, c .before .before .before .before .before .before .before .if1 .left)) (c .before .before .before .before .before .before .before .before .before .before .before .before .pre .0 .few)))
 
 pub take-span-spec : {M : Type 1} → statement M
 take-span-spec = tie.close (tie.spec set-requires same-length returns by-two-requires same-length-2 returns-2 by-four-requires same-length-3 returns-3 by-six-requires same-length-4 returns-4 by-eight-requires same-length-5 returns-5)

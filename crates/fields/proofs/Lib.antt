@@ -1,0 +1,4 @@
+pub mod Fields
+pub mod Within
+pub mod Faults
+pub mod After

@@ -1,0 +1,44 @@
+ghost use mathlib.Core.Bool.{cond};
+ghost use Prim.Native.Nat.{ℕ, _+_, _*_, _-_, _≤_, _<_};
+ghost use lib.Dec.{ltb};
+ghost use lib.ListN.{length, getD};
+ghost use Rattle.word.specs.Word.{far, near};
+ghost use Rattle.one_column.specs.Column.{Column};
+use word::FAR;
+use word::cap;
+
+// Writes one column, from the column of the next job at `from`.
+fn gather_column(table: &mut [u32], at: usize, rows: usize, width: usize, from: usize)
+    requires { ⌜ (1 ≤ rows) × (1 ≤ width) × (at + (rows - 1) * width < from) × (from + (rows - 1) * width < length (now table)) ⌝ }
+    ensures { λ r. ⌜ Column (now (table .entry)) (now (table .exit)) at rows width (λ (a : ℕ). near (getD (now (table .entry)) (from + a * width) 0)) ⌝ }
+{
+    let mut a: usize = 0;
+    while a < rows {
+        table[at + a * width] = cap(table[from + a * width]);
+        a += 1;
+    }
+}
+
+// Writes one column that leads to no cell.
+fn clear_column(table: &mut [u32], at: usize, rows: usize, width: usize)
+    requires { ⌜ (1 ≤ rows) × (1 ≤ width) × (at + (rows - 1) * width < length (now table)) ⌝ }
+    ensures { λ r. ⌜ Column (now (table .entry)) (now (table .exit)) at rows width (λ (a : ℕ). far) ⌝ }
+{
+    let mut a: usize = 0;
+    while a < rows {
+        table[at + a * width] = FAR;
+        a += 1;
+    }
+}
+
+// Writes the column whose cells lead to cell q of their rows.
+pub fn lay_column(table: &mut [u32], at: usize, rows: usize, width: usize, next: usize, q: usize)
+    requires { ⌜ (1 ≤ rows) × (1 ≤ width) × (at + (rows - 1) * width < next) × (next + rows * width ≤ length (now table)) ⌝ }
+    ensures { λ r. ⌜ Column (now (table .entry)) (now (table .exit)) at rows width (λ (a : ℕ). cond (ltb q width) (near (getD (now (table .entry)) (next + q + a * width) 0)) far) ⌝ }
+{
+    if q < width {
+        gather_column(table, at, rows, width, next + q);
+    } else {
+        clear_column(table, at, rows, width);
+    }
+}

@@ -1,0 +1,89 @@
+-- Whether there is a plan, by the start's word in the filled table, and its levels, by the walk.
+use mathlib.Core.Path.{_≡_, refl}
+use Prim.Native.Nat.{_-_}
+use native.Mathlib.Omega.{arith}
+use lib.ListN.{length}
+use denote.Ref.{now}
+use Rattle.frame.specs.Sheet.{Sheet}
+use Rattle.frame.specs.Plan.{least}
+use Rattle.frame.proofs.Words.{least-bounded}
+use Rattle.store.specs.Figures.{sheetOf}
+use Rattle.run.specs.Run.{stateOf}
+use Rattle.table.proofs.Cells.{filled-words}
+use Rattle.solve.proofs.Finding.{start-looks, start-rest, finds-none, finds-plan, starts}
+use borrow.Author.Needs.{needs}
+use Rattle.solve.proofs.find_plan.Statement.{statement}
+use Rattle.solve.proofs.find_plan.Tie as tie
+
+abbrev sheet : tie.Start → Sheet
+sheet c = sheetOf (c .args .f .head) (now (c .args .store))
+
+fill-requires : tie.Need-fill-requires
+fill-requires c κs = let a = c .before .before .before .pre in (a .0, a .1 .table)
+
+rest-of-requires : tie.Need-rest-of-requires
+rest-of-requires c κs = λ d.
+    let a = c .before .before .before .before .before .before .before .pre in
+    let q = start-looks (a .0 .axes) _ (a .1 .within) d in
+    (q .0, omega (arith, q .1, a .0 .axes .allowed), omega (arith, q .1, a .1 .table, c .before .before .before .fill .kept .1 .1 .1 .0))
+
+-- What was looked up is the start's word.
+looked : (c : tie.After-rest-of) → let a = c .before .before .before .before .before .before .before .before in
+    c .rest-of .result ≡ least (sheet a) ((sheet a) .jobs - a .args .start .done) (stateOf (a .args .start))
+looked c =
+    let a = c .before .before .before .before .before .before .before .before in
+    start-rest (a .pre .0 .axes) _ (a .pre .1 .within) (now (a .args .table)) _ _ (a .pre .1 .table) (c .before .before .before .before .fill .ensures) (c .rest-of .ensures)
+
+cast-if1 : tie.Need-cast-if1
+cast-if1 c = search needs
+
+add-if1 : tie.Need-add-if1
+add-if1 c =
+    let a = c .before .before .before .before .before .before .before .before .before .before in
+    omega (arith, looked (c .before .before), least-bounded (sheet a) (a .pre .0 .axes .ranges) ((sheet a) .jobs - a .args .start .done) (stateOf (a .args .start)), a .pre .1 .within .time, a .pre .0 .axes .ranges .deadline)
+
+same-length : tie.Need-same-length
+same-length c = search needs
+
+returns : tie.Need-returns
+unfolding sheetOf
+returns c = finds-none _ _ _ _ (looked (c .before .before .before)) (c .if1 .taken) (c .before .before .before .before .before .before .before .fill .ensures) refl
+
+walk-requires : tie.Need-walk-requires
+unfolding sheetOf
+walk-requires c κs =
+    let a = c .before .before .before .before .before .before .before .before .before .before .before .before .before in
+    let w = a .pre .1 in (
+      a .pre .0,
+      record {
+        room = omega (arith, w .table, c .before .before .before .before .before .before .before .before .before .fill .kept .1 .1 .1 .0);
+        words = λ i. rw (c .before .before .before .before .before .before .before .before .before .fill .ensures) (filled-words (sheet a) (now (a .args .table)) i (w .table));
+        starts = starts _ (a .pre .0 .axes .ranges) (w .within) (looked (c .before .before .before .before .before)) (omega (arith, c .before .before .if1 .left));
+        long = w .part;
+      },
+    )
+
+same-length-2 : tie.Need-same-length-2
+same-length-2 c = search needs
+
+same-length-3 : tie.Need-same-length-3
+same-length-3 c = search needs
+
+returns-2 : tie.Need-returns-2
+unfolding sheetOf
+returns-2 c = finds-plan _ _ _ _ (looked (c .before .before .before .before .before .before .before .before)) (c .before .before .before .before .before .if1 .left) (c .before .before .before .before .before .before .before .before .before .before .before .before .fill .ensures) (c .before .before .walk .ensures)
+
+pub find-plan-spec : {M : Type 1} → statement M
+find-plan-spec =
+    tie.close
+    (tie.spec
+    fill-requires
+    rest-of-requires
+    cast-if1
+    add-if1
+    same-length
+    returns
+    walk-requires
+    same-length-2
+    same-length-3
+    returns-2)
