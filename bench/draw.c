@@ -51,15 +51,12 @@ static struct axis temperature_axis(uint32_t cells)
 static void add_head(struct sheet *sheet, uint32_t deadline, struct axis energy, struct axis temperature)
 {
     const struct shape *shape = &sheet->shape;
-    uint32_t start_level = shape->levels / 3, start_temperature = temperature.limit / 5;
     const uint32_t head[] = {
-        shape->jobs, shape->levels, start_level, deadline, energy.limit, temperature.limit, start_temperature, RESISTANCE,
-        energy.step, temperature.step,
+        shape->jobs, shape->levels, shape->levels / 3, deadline, energy.limit, temperature.limit, temperature.limit / 5,
+        RESISTANCE, energy.step, temperature.step,
     };
     add_line(sheet, 'V', (uint32_t[]){1}, 1);
     add_line(sheet, 'H', head, 10);
-    size_t start_cell = (start_temperature + temperature.step - 1) / temperature.step;
-    sheet->start = (size_t)start_level * shape->energy_cells * shape->temperature_cells + start_cell;
 }
 
 // Steady states from 0.4 to 1.5 of the temperature limit: the higher levels are too hot to stay at.

@@ -15,7 +15,6 @@ struct shape {
 struct sheet {
     struct shape shape;
     size_t need; // words
-    size_t start; // the start state's word
     size_t length;
     uint8_t bytes[SHEET_ROOM];
 };

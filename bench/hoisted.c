@@ -1,10 +1,10 @@
-// The table fill hoisted by hand for speed: no division and no thermal rule in an inner loop.
+// The table fill hoisted by hand for speed, in the place of tests/plain/fill.c: no division and no thermal rule in an inner loop.
 //
 // A job at a level, entered from another, moves every state by the same number of energy cells, and the next temperature cell
 // depends on the temperature cell alone. So for each level of the job the words that follow it are laid out once by the
 // temperature cell before it ("ahead"); a word is then the least over the levels of a word there, at a constant distance, and a
 // constant time.
-#include "planner.h"
+#include "../tests/plain/rule.h"
 
 #include <stdbool.h>
 #include <string.h>
@@ -41,7 +41,7 @@ struct steps {
 
 // What does not change from job to job.
 struct grid {
-    const struct frame *frame;
+    const struct plain_frame *frame;
     size_t rows, row, cells; // energy cells, temperature cells, both
     uint32_t over;           // how far the last energy cell is above the budget
     struct steps change[LEVELS_MAX][LEVELS_MAX];
@@ -49,7 +49,7 @@ struct grid {
 
 // The words of one job, and where those that follow it are laid out.
 struct layer {
-    const struct job *job;
+    const struct plain_job *job;
     const uint32_t *next; // NULL for the last job
     uint32_t *words;
     int32_t *ahead;
@@ -66,11 +66,11 @@ static struct steps in_steps(uint32_t energy, uint32_t step)
 static size_t map_cells(const struct grid *grid, uint32_t steady_state, uint32_t decay, int32_t *map)
 {
     const uint32_t step = grid->frame->temperature_step;
-    uint32_t heat = (DECAY_ONE - decay) * steady_state + DECAY_ONE - 1;
-    uint32_t cell = divide_up(heat / DECAY_ONE, step), temperature = cell * step;
+    uint32_t heat = (DECAY_MAX - decay) * steady_state + DECAY_MAX - 1;
+    uint32_t cell = plain_divide_up(heat / DECAY_MAX, step), temperature = cell * step;
     size_t b = 0;
-    for (; b < grid->row && heat / DECAY_ONE <= grid->frame->temperature_limit; b++) {
-        if (heat / DECAY_ONE > temperature) {
+    for (; b < grid->row && heat / DECAY_MAX <= grid->frame->temperature_limit; b++) {
+        if (heat / DECAY_MAX > temperature) {
             temperature += step;
             cell++;
         }
@@ -269,9 +269,10 @@ static void fill_layer(const struct grid *grid, const struct layer *layer)
         fill_blocks(grid, layer, ways, at);
 }
 
-static struct grid grid_of(const struct frame *frame)
+static struct grid grid_of(const struct plain_table *table)
 {
-    struct grid grid = {.frame = frame, .rows = energy_cells(frame), .row = temperature_cells(frame)};
+    const struct plain_frame *frame = table->frame;
+    struct grid grid = {.frame = frame, .rows = table->energy_cells, .row = table->temperature_cells};
     grid.cells = grid.rows * grid.row;
     grid.over = (uint32_t)(grid.rows - 1) * frame->energy_step - frame->energy_budget;
     for (uint32_t left = 0; left < frame->levels; left++)
@@ -282,17 +283,18 @@ static struct grid grid_of(const struct frame *frame)
 
 // The words of the first two jobs are free until their turn: room for the others' words ahead, with FAR after each level's, so
 // that no way ends within a block. The first two jobs, and tables of few cells, have theirs where their own words will stand.
-void fill_table(const struct frame *frame, uint32_t *table)
+void plain_fill(const struct plain_table *table)
 {
-    const struct grid grid = grid_of(frame);
+    const struct plain_frame *frame = table->frame;
+    const struct grid grid = grid_of(table);
     size_t words = frame->levels * grid.cells;
     struct layer layer = {.next = NULL};
     for (uint32_t i = frame->jobs; i > 0; i--) {
         layer.job = frame->job[i - 1];
-        layer.words = table + (i - 1) * words;
+        layer.words = table->words + (i - 1) * words;
         // After the last job the row above the budget is not FAR, so its ways end where they end.
         layer.padded = i > 2 && grid.cells >= BLOCK && layer.next != NULL;
-        layer.ahead = (int32_t *)(layer.padded ? table : layer.words);
+        layer.ahead = (int32_t *)(layer.padded ? table->words : layer.words);
         layer.pitch = grid.cells + (layer.padded ? BLOCK : 0);
         fill_layer(&grid, &layer);
         layer.next = layer.words;

@@ -2,11 +2,11 @@
 #ifndef PROGRAMS_H
 #define PROGRAMS_H
 
-#include <stddef.h>
-#include <stdint.h>
+#include <begbija.h>
 
+// The library's two planning calls.
 typedef int64_t plan_call(const uint8_t *sheet, size_t sheet_len, uint32_t *table, size_t table_len, uint8_t *levels,
-                          size_t levels_len);
+                          size_t levels_len, struct begbija_reply *reply);
 typedef int64_t text_call(const uint8_t *sheet, size_t sheet_len, uint8_t *text, size_t text_len);
 
 struct program {

@@ -22,14 +22,15 @@ static void run_text(void)
 static void run_plan(void)
 {
     static uint8_t levels[LEVELS_ROOM];
-    running->plan(current->bytes, current->length, bench_table, TABLE_ROOM, levels, sizeof levels);
+    static struct begbija_reply reply;
+    running->plan(current->bytes, current->length, bench_table, TABLE_ROOM, levels, sizeof levels, &reply);
 }
 
 // Empty calls, whose stack is taken off.
 static int64_t plan_nothing(const uint8_t *sheet, size_t sheet_len, uint32_t *table, size_t table_len, uint8_t *levels,
-                            size_t levels_len)
+                            size_t levels_len, struct begbija_reply *reply)
 {
-    (void)sheet, (void)sheet_len, (void)table, (void)table_len, (void)levels, (void)levels_len;
+    (void)sheet, (void)sheet_len, (void)table, (void)table_len, (void)levels, (void)levels_len, (void)reply;
     return 0;
 }
 

@@ -21,6 +21,7 @@ struct samples {
 };
 
 static uint8_t levels[LEVELS_ROOM], text[TEXT_BYTES];
+static struct begbija_reply reply;
 
 // Processor time, so that other work on the machine counts as little as it can.
 static double now(void)
@@ -35,7 +36,7 @@ void make_call(const struct program *program, enum call call, const struct sheet
     if (call == TEXT)
         program->text(sheet->bytes, sheet->length, text, TEXT_BYTES);
     else
-        program->plan(sheet->bytes, sheet->length, bench_table, sheet->need - (call == READER), levels, sizeof levels);
+        program->plan(sheet->bytes, sheet->length, bench_table, sheet->need - (call == READER), levels, sizeof levels, &reply);
 }
 
 static double sample(const struct program *program, enum call call, const struct sheet *sheet, size_t calls)

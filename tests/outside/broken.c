@@ -2,7 +2,7 @@
 // own (-Wl,--wrap), and the tests have to fail.
 #define _POSIX_C_SOURCE 200809L
 
-#include "plain.h"
+#include "rule.h"
 
 #include <begbija.h>
 
@@ -35,7 +35,7 @@ static const struct plain_answer *answer_again(const uint8_t *sheet, size_t leng
 {
     static _Thread_local struct plain_answer answer;
     static uint32_t table[TABLE_WORDS_MAX];
-    plain_plan(sheet, length, table, with_table ? TABLE_WORDS_MAX : 0, &answer);
+    plain_plan(sheet, length, &(struct plain_lent){table, with_table ? TABLE_WORDS_MAX : 0, JOBS_MAX, false}, &answer);
     return &answer;
 }
 
@@ -52,7 +52,7 @@ static int64_t text_in_4095(const uint8_t *sheet, size_t sheet_len, uint8_t *tex
 // A text by a table that is one word longer than the one inside.
 static int64_t text_by_16385(const uint8_t *sheet, size_t sheet_len, uint8_t *text)
 {
-    char whole[TEXT_BYTES_MIN + 1];
+    char whole[TEXT_BYTES_MIN];
     size_t length = plain_print(answer_again(sheet, sheet_len, true), whole);
     memcpy(text, whole, length);
     return (int64_t)length;
@@ -136,16 +136,72 @@ static void harm_reply(const uint8_t *sheet, size_t sheet_len, struct begbija_re
         (&reply->peak)[1] = 0;
 }
 
-// Turns a plan away whose time is the deadline, and leaves lent memory as "no plan" does.
+// Answers "no plan" and leaves the levels as they were before.
+static int64_t reply_none(const struct plain_frame *frame, uint8_t *levels, const uint8_t *before, struct begbija_reply *reply)
+{
+    memcpy(levels, before, frame->jobs);
+    *reply = (struct begbija_reply){.refusal = 10};
+    return -10;
+}
+
+// Answers with levels that are written, and the figures of their run.
+static int64_t reply_plan(const struct plain_frame *frame, const uint8_t *levels, struct begbija_reply *reply)
+{
+    struct plain_total total = plain_run(frame, levels);
+    *reply = (struct begbija_reply){0, 0, 0, total.time, total.energy, total.temperature, total.highest};
+    return 0;
+}
+
+// Turns a plan away whose time is the deadline.
 static int64_t strict_deadline(const uint8_t *sheet, size_t sheet_len, uint8_t *levels, const uint8_t *before,
                                struct begbija_reply *reply)
 {
     const struct plain_frame *frame = &answer_again(sheet, sheet_len, false)->frame;
-    if (reply->time < frame->deadline)
-        return 0;
-    memcpy(levels, before, frame->jobs);
-    *reply = (struct begbija_reply){.refusal = 10};
-    return -10;
+    return reply->time < frame->deadline ? 0 : reply_none(frame, levels, before, reply);
+}
+
+// Fills a table of as many words, but lets a job end only below the temperature limit.
+static void fill_below_limit(const struct plain_table *table)
+{
+    struct plain_frame below = *table->frame;
+    struct plain_table filled = *table;
+    below.temperature_limit--;
+    filled.frame = &below;
+    if (table->frame->temperature_limit > 0)
+        plain_fill(&filled);
+    else
+        memset(table->words, 0xFF, plain_need(table) * sizeof *table->words); // nothing is below 0
+}
+
+// Plans once more by such a table.
+static int64_t plan_below_limit(const uint8_t *sheet, size_t sheet_len, uint32_t *words, uint8_t *levels, const uint8_t *before,
+                                struct begbija_reply *reply)
+{
+    const struct plain_frame *frame = &answer_again(sheet, sheet_len, false)->frame;
+    const struct plain_table table = plain_table_of(frame, words);
+    fill_below_limit(&table);
+    if (*plain_word(&table, 0, plain_start(frame)) > frame->deadline)
+        return reply_none(frame, levels, before, reply);
+    plain_walk(&table, levels);
+    return reply_plan(frame, levels, reply);
+}
+
+// Follows a filled table once more, and takes the highest of the levels that take the least time.
+static int64_t walk_to_last(const uint8_t *sheet, size_t sheet_len, uint32_t *words, uint8_t *levels,
+                            struct begbija_reply *reply)
+{
+    const struct plain_frame *frame = &answer_again(sheet, sheet_len, false)->frame;
+    const struct plain_table table = plain_table_of(frame, words);
+    struct plain_state state = plain_start(frame);
+    for (uint32_t done = 0; done < frame->jobs; done++) {
+        uint32_t least = *plain_word(&table, done, state), level = frame->levels - 1;
+        state = plain_raised(frame, state);
+        while (plain_through(&table, done, state, level) != least)
+            level--;
+        levels[done] = (uint8_t)level;
+        state = plain_after(frame, state, done, level);
+    }
+    return reply_plan(frame, levels, reply);
 }
 
 // What is done to the levels of a plan; what they held before is needed to take it back.
@@ -184,8 +240,13 @@ int64_t __wrap_begbija_plan(const uint8_t *sheet, size_t sheet_len, uint32_t *ta
         return -7;
     }
     int64_t result = __real_begbija_plan(sheet, sheet_len, table, table_len, levels, levels_len, reply);
-    if (result == 0 || result == -10)
+    if (result == 0 || result == -10) {
         harm_table(sheet, sheet_len, table, table_len);
+        if (is("end at the temperature limit refused in the fill"))
+            return plan_below_limit(sheet, sheet_len, table, levels, before, reply);
+    }
+    if (result == 0 && is("last of equals in the walk"))
+        return walk_to_last(sheet, sheet_len, table, levels, reply);
     if (result < 0)
         return harm_refusal(result, levels_len, &reply_before, reply);
     harm_reply(sheet, sheet_len, reply);

@@ -32,20 +32,8 @@ struct guarded_margins {
 
 unsigned long answer_sheet(const struct sheet *sheet, uint32_t *table, size_t words, struct plain_answer *answer)
 {
-    plain_plan(lend_sheet(sheet), sheet->length, table, words, answer);
+    plain_plan(lend_sheet(sheet), sheet->length, &(struct plain_lent){table, words, JOBS_MAX, false}, answer);
     return count_answer(answer->refusal.number);
-}
-
-// The refusal for a table of so many words and a part of so many bytes: 8 comes after 1 to 7, 9 after 8, 10 last.
-static struct plain_refusal refusal_with(const struct plain_answer *answer, size_t words, size_t bytes, size_t least_bytes)
-{
-    if (plain_refused(answer) || answer->refusal.number == 7)
-        return answer->refusal;
-    if (words < answer->need)
-        return (struct plain_refusal){8, 0, 0};
-    if (bytes < least_bytes)
-        return (struct plain_refusal){9, 0, 0};
-    return answer->refusal;
 }
 
 // The number that a call returns is the one due.
@@ -68,10 +56,10 @@ static void check_figures(const char *const *names, size_t count, const void *fi
 void check_text(const struct sheet *sheet, const struct plain_answer *answer, size_t bytes, uint8_t fill)
 {
     static uint8_t area[PART_ROOM + 2 * GUARD_BYTES];
-    char due[TEXT_BYTES_MIN + 1];
-    unsigned refusal = refusal_with(answer, PLAN_TABLE_WORDS, bytes, TEXT_BYTES_MIN).number;
+    char due[TEXT_BYTES_MIN];
+    unsigned refusal = plain_refusal_with(answer, &(struct plain_lent){NULL, PLAN_TABLE_WORDS, bytes, true}).number;
     size_t written = refusal == 0 ? plain_print(answer, due) : 0;
-    memset(area, fill, bytes + 2 * GUARD_BYTES);
+    fill_lent(area, bytes + 2 * GUARD_BYTES, fill);
     const uint8_t *lent = lend_sheet(sheet);
     begin_call("begbija_plan_text with %zu bytes: ", bytes);
     int64_t result = begbija_plan_text(lent, sheet->length, area + GUARD_BYTES, bytes);
@@ -103,12 +91,12 @@ void check_plan(const struct sheet *sheet, const struct plain_answer *answer, co
     static uint32_t table[TABLE_WORDS_MAX + 1 + 2 * GUARD_WORDS];
     static uint8_t area[PART_ROOM + 2 * GUARD_BYTES];
     struct guarded_reply reply;
-    struct plain_refusal refusal = refusal_with(answer, words, bytes, answer->frame.jobs);
+    struct plain_refusal refusal = plain_refusal_with(answer, &(struct plain_lent){NULL, words, bytes, false});
     size_t filled = refusal.number == 0 || refusal.number == NO_PLAN ? answer->need : 0;
     size_t written = refusal.number == 0 ? answer->frame.jobs : 0;
-    memset(table, fill, (words + 2 * GUARD_WORDS) * sizeof *table);
-    memset(area, fill, bytes + 2 * GUARD_BYTES);
-    memset(&reply, fill, sizeof reply);
+    fill_lent(table, (words + 2 * GUARD_WORDS) * sizeof *table, fill);
+    fill_lent(area, bytes + 2 * GUARD_BYTES, fill);
+    fill_lent(&reply, sizeof reply, fill);
     const uint8_t *lent = lend_sheet(sheet);
     begin_call("begbija_plan with %zu words and %zu bytes: ", words, bytes);
     int64_t result = begbija_plan(lent, sheet->length, table + GUARD_WORDS, words, area + GUARD_BYTES, bytes, &reply.reply);
@@ -127,7 +115,7 @@ struct plain_margins check_measure(const struct sheet *sheet, const struct plain
     struct plain_margins plain = plain_measure(answer, levels, count);
     struct begbija_margins due = {plain.refusal.number, plain.refusal.line, plain.refusal.field, plain.time, plain.energy,
                                   plain.temperature};
-    memset(&area, fill, sizeof area);
+    fill_lent(&area, sizeof area, fill);
     const uint8_t *lent = lend_sheet(sheet), *lent_list = lend_list(levels, count);
     begin_call("begbija_measure with %zu levels: ", count);
     int64_t result = begbija_measure(lent, sheet->length, lent_list, count, &area.margins);
@@ -172,6 +160,15 @@ static void check_lists(const struct sheet *sheet, const struct plain_answer *an
         check_measure(sheet, answer, answer->levels, answer->frame.jobs, fill);
 }
 
+// Demand 3 of the request for a plan: run without steps it meets every limit after every job. Time and energy do not fall.
+static void check_sound(const struct plain_answer *answer)
+{
+    const struct plain_frame *frame = &answer->frame;
+    const struct plain_total *total = &answer->total;
+    check(total->time <= frame->deadline && total->energy <= frame->energy_budget && total->highest <= frame->temperature_limit,
+          "the plan breaks a limit when run without steps");
+}
+
 const struct plain_answer *check_sheet(const struct sheet *sheet)
 {
     static struct plain_answer answer;
@@ -181,5 +178,7 @@ const struct plain_answer *check_sheet(const struct sheet *sheet)
     check_text(sheet, &answer, TEXT_BYTES_MIN, fill);
     check_table(sheet, &answer, table, fill);
     check_lists(sheet, &answer, number, fill);
+    if (answer.refusal.number == 0)
+        check_sound(&answer);
     return &answer;
 }

@@ -10,7 +10,10 @@
 #include <sys/mman.h>
 #include <unistd.h>
 
-enum { ANSWERS = 11 };
+enum {
+    ANSWERS = 11,
+    FILL_PERIOD = 13 // bytes; below 16, so that the upper half of every byte is the fill's
+};
 
 static const char failed_sheet[] = "target/outside/failed.sheet";
 
@@ -167,31 +170,51 @@ void end_call(void)
     call.lent[0] = 0;
 }
 
-// The first byte that is not the fill, or the size.
-static size_t first_written(const uint8_t *bytes, size_t size, uint8_t fill)
+// What a byte of filled memory holds.
+static uint8_t filled(size_t at, uint8_t fill)
 {
-    if (size == 0 || (bytes[0] == fill && memcmp(bytes, bytes + 1, size - 1) == 0))
-        return size;
+    return fill ^ (uint8_t)(at % FILL_PERIOD);
+}
+
+void fill_lent(void *area, size_t size, uint8_t fill)
+{
+    uint8_t *bytes = area;
     size_t at = 0;
-    while (bytes[at] == fill)
+    for (; at < size && at < FILL_PERIOD; at++)
+        bytes[at] = filled(at, fill);
+    for (size_t more; at < size; at += more) {
+        more = at < size - at ? at : size - at;
+        memcpy(bytes + at, bytes, more);
+    }
+}
+
+// The first byte from a place of filled memory on that is another now, or the end.
+static size_t first_written(const uint8_t *area, size_t start, size_t end, uint8_t fill)
+{
+    size_t at = start;
+    while (at < end && at < start + FILL_PERIOD && area[at] == filled(at, fill))
+        at++;
+    // Beyond a whole period every byte is as one period before.
+    if (at == start + FILL_PERIOD && memcmp(area + start, area + at, end - at) == 0)
+        return end;
+    while (at < end && area[at] == filled(at, fill))
         at++;
     return at;
 }
 
 void check_lent(const struct lent *lent)
 {
-    const uint8_t *start = (const uint8_t *)lent->area + lent->guard;
-    const uint8_t *due = lent->due;
-    size_t rest = lent->size - lent->due_size + lent->guard;
+    const uint8_t *area = lent->area, *start = area + lent->guard, *due = lent->due;
+    const size_t due_end = lent->guard + lent->due_size, end = 2 * lent->guard + lent->size;
     if (memcmp(start, due, lent->due_size) != 0) {
         size_t at = 0;
         while (start[at] == due[at])
             at++;
         check(false, "%s %zu of %zu that are due is wrong", lent->unit, at / lent->unit_size, lent->due_size / lent->unit_size);
     }
-    size_t before = first_written(lent->area, lent->guard, lent->fill);
+    size_t before = first_written(area, 0, lent->guard, lent->fill);
     if (before < lent->guard)
         check(false, "%s %zu before the start is written", lent->unit, (lent->guard - before - 1) / lent->unit_size + 1);
-    size_t beyond = first_written(start + lent->due_size, rest, lent->fill);
-    check(beyond == rest, "%s %zu is written, which has to stay", lent->unit, (lent->due_size + beyond) / lent->unit_size);
+    size_t beyond = first_written(area, due_end, end, lent->fill);
+    check(beyond == end, "%s %zu is written, which has to stay", lent->unit, (beyond - lent->guard) / lent->unit_size);
 }

@@ -7,7 +7,7 @@
 enum {
     SHEET_ROOM = 24576,
     LIST_ROOM = 4096,
-    FILL = 0xA5 // what lent memory holds before a call; its complement is the second fill
+    FILL = 0xA5 // lent memory is filled by this before a call, or by its complement
 };
 
 struct sheet {
@@ -39,6 +39,10 @@ const uint8_t *lend_list(const uint8_t *levels, size_t count);
 // it was.
 void begin_call(const char *format, ...) __attribute__((format(printf, 1, 2)));
 void end_call(void);
+
+// Fills memory before it is lent. No two bytes next to each other are alike, and none is a level, no word a time; by the fill's
+// complement every bit is another.
+void fill_lent(void *area, size_t size, uint8_t fill);
 
 // Lent memory with its guards, all sizes in bytes: a call leaves what is due at the start and the fill in every other place.
 struct lent {

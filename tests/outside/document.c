@@ -59,7 +59,7 @@ static void check_plain(const char *prints)
 {
     static struct plain_answer answer;
     static uint32_t table[PLAN_TABLE_WORDS];
-    char text[TEXT_BYTES_MIN + 1];
+    char text[TEXT_BYTES_MIN];
     answer_sheet(&sheet, table, PLAN_TABLE_WORDS, &answer);
     size_t length = plain_print(&answer, text);
     check(length == strlen(prints) && memcmp(text, prints, length) == 0, "the plain planner prints %.*s", (int)length, text);

@@ -11,6 +11,7 @@ void test_largest_table(const char *top);
 void test_needs(const char *top);
 void test_measured_lists(const char *top);
 void test_document(const char *top);
+void test_all_lists(const char *top);
 void test_random_sheets(const char *top);
 void test_noise(const char *top);
 void test_threads(const char *top);

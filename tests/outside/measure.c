@@ -76,7 +76,7 @@ static void check_borders(unsigned long count, uint64_t seed, uint64_t jobs_max,
     uint8_t levels[JOBS_MAX];
     unsigned long tried = 0;
     for (unsigned long number = 0; number < count; number++) {
-        draw_frame(&seed, jobs_max, levels_max, &frame);
+        draw_frame(&seed, jobs_max, levels_max, PLAN_TABLE_WORDS, &frame);
         draw_list(&seed, &frame, levels);
         set_name(&sheet, "the limits at a list of drawn sheet %lu", number);
         for (size_t i = 0; i < 7; i++)

@@ -17,10 +17,16 @@ static void check_answer(unsigned refusal)
     check(answer.refusal.number == refusal, "the plain planner answers %u, expected %u", answer.refusal.number, refusal);
 }
 
+// A refused sheet has no jobs and no need; those of the printed sheet will do.
+static size_t jobs_tried(void)
+{
+    return plain_refused(&answer) ? 2 : answer.frame.jobs;
+}
+
 // begbija_plan_text with parts of every critical length.
 static void check_texts(uint8_t fill)
 {
-    char text[TEXT_BYTES_MIN + 1];
+    char text[TEXT_BYTES_MIN];
     size_t written = plain_print(&answer, text);
     const size_t lengths[] = {0, 1, written - 1, written, written + 1, 4095, 4096, 4097, 8192};
     for (size_t i = 0; i < sizeof lengths / sizeof lengths[0]; i++)
@@ -30,9 +36,7 @@ static void check_texts(uint8_t fill)
 // begbija_plan with tables and parts of every critical length.
 static void check_plans(uint8_t fill)
 {
-    // A refused sheet has no need; that of the printed sheet will do.
-    size_t need = answer.need > 0 && answer.need <= TABLE_WORDS_MAX ? answer.need : 1144;
-    size_t jobs = answer.frame.jobs > 0 ? answer.frame.jobs : 2;
+    size_t need = answer.need > 0 && answer.need <= TABLE_WORDS_MAX ? answer.need : 1144, jobs = jobs_tried();
     const size_t words[] = {0, 1, need - 1, need, need + 1};
     const size_t bytes[] = {0, 1, jobs - 1, jobs, jobs + 1, JOBS_MAX, 4096};
     for (size_t i = 0; i < sizeof words / sizeof words[0]; i++)
@@ -44,7 +48,7 @@ static void check_plans(uint8_t fill)
 static void check_measures(uint8_t fill)
 {
     uint8_t levels[LIST_ROOM] = {0};
-    size_t jobs = answer.frame.jobs > 0 ? answer.frame.jobs : 2;
+    size_t jobs = jobs_tried();
     const size_t lengths[] = {0, 1, jobs - 1, jobs, jobs + 1, JOBS_MAX, LIST_ROOM};
     for (size_t i = 0; i < sizeof lengths / sizeof lengths[0]; i++) {
         size_t length = lengths[i];
@@ -95,7 +99,7 @@ static void check_longest_text(void)
     write_sheet(&sheet, &frame);
     set_name(&sheet, "the longest text");
     check_lengths(0);
-    char text[TEXT_BYTES_MIN + 1];
+    char text[TEXT_BYTES_MIN];
     plain_print(&answer, text);
     const char head[] = "P\t63\t1260000000\t1260000000\t19999\nQ\t~longest-name~00\t1\t20000000\t20000000\t19999\n";
     check(strncmp(text, head, strlen(head)) == 0, "the text starts with %.80s", text);

@@ -82,7 +82,7 @@ static void damage(uint64_t *seed)
 static void check_damaged(uint64_t *seed, unsigned long number)
 {
     static struct plain_frame frame;
-    draw_frame(seed, 4, 3, &frame);
+    draw_frame(seed, 4, 3, PLAN_TABLE_WORDS, &frame);
     write_sheet(&sheet, &frame);
     set_name(&sheet, "damaged sheet %lu", number);
     for (uint64_t i = 1 + draw(seed, 2); i > 0; i--)

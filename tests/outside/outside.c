@@ -19,6 +19,7 @@ static const struct {
     {"needs", test_needs},
     {"measured lists", test_measured_lists},
     {"document 01", test_document},
+    {"all lists", test_all_lists},
     {"random sheets", test_random_sheets},
     {"noise", test_noise},
     {"threads", test_threads},

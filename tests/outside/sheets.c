@@ -1,3 +1,4 @@
+#include "rule.h"
 #include "sheets.h"
 
 #include <stdarg.h>
@@ -54,10 +55,9 @@ void load_sheet(struct sheet *sheet, const char *path)
     set_name(sheet, "%s", name == NULL ? path : name + 1);
 }
 
-static void add_field(struct sheet *sheet, uint64_t number)
+static void add_field(struct sheet *sheet, uint32_t number)
 {
-    char *at = (char *)sheet->bytes + sheet->length;
-    sheet->length += (size_t)sprintf(at, "\t%llu", (unsigned long long)number);
+    sheet->length += (size_t)sprintf((char *)sheet->bytes + sheet->length, "\t%u", (unsigned)number);
 }
 
 static void add_text(struct sheet *sheet, const char *text)
@@ -66,7 +66,7 @@ static void add_text(struct sheet *sheet, const char *text)
     sheet->length += strlen(text);
 }
 
-static void add_line(struct sheet *sheet, const char *letter, const uint64_t *numbers, size_t count)
+static void add_line(struct sheet *sheet, const char *letter, const uint32_t *numbers, size_t count)
 {
     add_text(sheet, letter);
     for (size_t i = 0; i < count; i++)
@@ -81,14 +81,14 @@ static void write_job(struct sheet *sheet, const struct plain_frame *frame, uint
     add_text(sheet, "\n");
     for (uint64_t level = 0; level < frame->levels; level++) {
         const struct plain_job *job = &frame->job[i][level];
-        add_line(sheet, "B", (uint64_t[]){job->time, job->energy, job->decay}, 3);
+        add_line(sheet, "B", (uint32_t[]){job->time, job->energy, job->decay}, 3);
     }
 }
 
 void write_sheet(struct sheet *sheet, const struct plain_frame *frame)
 {
     set_text(sheet, "V\t1\n");
-    const uint64_t head[] = {frame->jobs, frame->levels, frame->start_level, frame->deadline, frame->energy_budget,
+    const uint32_t head[] = {frame->jobs, frame->levels, frame->start_level, frame->deadline, frame->energy_budget,
                              frame->temperature_limit, frame->start_temperature, frame->resistance, frame->energy_step,
                              frame->temperature_step};
     add_line(sheet, "H", head, 10);
@@ -97,7 +97,7 @@ void write_sheet(struct sheet *sheet, const struct plain_frame *frame)
     for (uint64_t left = 0; left < frame->levels; left++)
         for (uint64_t entered = 0; entered < frame->levels; entered++) {
             const struct plain_change *change = &frame->change[left][entered];
-            add_line(sheet, "S", (uint64_t[]){change->time, change->energy}, 2);
+            add_line(sheet, "S", (uint32_t[]){change->time, change->energy}, 2);
         }
     for (uint64_t i = 0; i < frame->jobs; i++)
         write_job(sheet, frame, i);
@@ -153,23 +153,44 @@ static void draw_changes(uint64_t *seed, struct plain_frame *frame, uint64_t tim
                 frame->change[left][entered] = (struct plain_change){draw(seed, time_below), draw(seed, energy_below)};
 }
 
+// Multiples of 5 at the resistances 500 and 1000, so that many steady states are rounded from an exact half.
 static void draw_powers(uint64_t *seed, struct plain_frame *frame, uint64_t temperature_scale)
 {
-    static const uint64_t resistances[] = {0, 1, 500, 777, 2000, 10000, 20000};
-    frame->resistance = draw_of(seed, resistances, 7);
+    static const uint64_t resistances[] = {0, 1, 500, 777, 1000, 2000, 10000, 20000};
+    frame->resistance = draw_of(seed, resistances, 8);
+    const uint32_t factor = frame->resistance == 500 || frame->resistance == 1000 ? 5 : 1;
     uint64_t most = frame->resistance == 0 ? 100000 : temperature_scale * 10000 / frame->resistance;
     for (uint64_t level = 0; level < frame->levels; level++) {
-        frame->power[level] = draw(seed, (most < 100000 ? most : 100000) + 1);
+        frame->power[level] = draw(seed, (most < 100000 ? most : 100000) / factor + 1) * factor;
         frame->steady_state[level] = plain_steady_state(frame->power[level], frame->resistance);
     }
 }
 
-// A step that parts the range into some cells, so that the need stays near the table of the logger's call.
-static uint64_t draw_step(uint64_t *seed, const struct plain_frame *frame, uint64_t range, uint64_t most)
+// A level with the figures of the one below it and free changes between the two, so that lists tie.
+static void repeat_level(struct plain_frame *frame, uint32_t level)
 {
-    uint64_t cells_max = 2;
-    while ((cells_max + 4) * (cells_max + 4) * frame->jobs * frame->levels < PLAN_TABLE_WORDS)
-        cells_max++;
+    const uint32_t below = level - 1;
+    frame->power[level] = frame->power[below];
+    frame->steady_state[level] = frame->steady_state[below];
+    memcpy(frame->change[level], frame->change[below], sizeof frame->change[level]);
+    for (uint32_t left = 0; left < frame->levels; left++)
+        frame->change[left][level] = frame->change[left][below];
+    for (uint32_t i = 0; i < frame->jobs; i++)
+        frame->job[i][level] = frame->job[i][below];
+}
+
+// The cells on each axis that keep the need near so many words.
+static uint64_t cells_within(const struct plain_frame *frame, uint64_t words)
+{
+    uint64_t cells = 2;
+    while ((cells + 4) * (cells + 4) * frame->jobs * frame->levels < words)
+        cells++;
+    return cells;
+}
+
+// A step that parts the range into some cells.
+static uint64_t draw_step(uint64_t *seed, uint64_t cells_max, uint64_t range, uint64_t most)
+{
     uint64_t step = range / (1 + draw(seed, cells_max)) + draw(seed, 2);
     return step < 1 ? 1 : step > most ? most : step;
 }
@@ -189,14 +210,15 @@ static void draw_limits(uint64_t *seed, struct plain_frame *frame)
     uint64_t warmest = state.temperature;
     for (uint64_t i = 0; i < frame->jobs; i++) {
         state = plain_after(frame, plain_raised(frame, state), i, draw(seed, frame->levels));
+        state.energy = state.energy < FRAME_LIMIT_MAX ? state.energy : FRAME_LIMIT_MAX; // no budget is above it
         warmest = state.temperature > warmest ? state.temperature : warmest;
     }
-    frame->deadline = draw_limit(seed, state.time, 2000000000);
-    frame->energy_budget = draw_limit(seed, state.energy, 2000000000);
-    frame->temperature_limit = draw_limit(seed, warmest, 20000);
+    frame->deadline = draw_limit(seed, state.time, FRAME_LIMIT_MAX);
+    frame->energy_budget = draw_limit(seed, state.energy, FRAME_LIMIT_MAX);
+    frame->temperature_limit = draw_limit(seed, warmest, TEMPERATURE_MAX);
 }
 
-void draw_frame(uint64_t *seed, uint64_t jobs_max, uint64_t levels_max, struct plain_frame *frame)
+void draw_frame(uint64_t *seed, uint64_t jobs_max, uint64_t levels_max, uint64_t words, struct plain_frame *frame)
 {
     static const uint64_t time_scales[] = {1, 3, 20, 1000, 10000000};
     static const uint64_t energy_scales[] = {0, 2, 9, 50, 10000000};
@@ -211,9 +233,12 @@ void draw_frame(uint64_t *seed, uint64_t jobs_max, uint64_t levels_max, struct p
     draw_powers(seed, frame, temperature_scale);
     draw_changes(seed, frame, time_scale, energy_scale);
     draw_jobs(seed, frame, time_scale, energy_scale);
+    if (frame->levels > 1 && draw(seed, 4) == 0)
+        repeat_level(frame, 1 + draw(seed, frame->levels - 1));
     frame->start_temperature = draw(seed, temperature_scale + 1);
-    frame->energy_step = draw_step(seed, frame, frame->jobs * energy_scale, 2000000000);
-    frame->temperature_step = draw_step(seed, frame, temperature_scale, 20000);
+    uint64_t cells = cells_within(frame, words);
+    frame->energy_step = draw_step(seed, cells, frame->jobs * energy_scale, FRAME_LIMIT_MAX);
+    frame->temperature_step = draw_step(seed, cells, temperature_scale, TEMPERATURE_MAX);
     draw_limits(seed, frame);
 }
 

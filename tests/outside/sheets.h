@@ -22,8 +22,9 @@ void write_sheet(struct sheet *sheet, const struct plain_frame *frame);
 // The next number of a fixed row, below the given one.
 uint64_t draw(uint64_t *seed, uint64_t below);
 
-// Figures of a sheet with at most so many jobs and levels, its limits near those of a drawn list.
-void draw_frame(uint64_t *seed, uint64_t jobs_max, uint64_t levels_max, struct plain_frame *frame);
+// Figures of a sheet with at most so many jobs and levels and a need near so many words or below. Its limits are near what a drawn
+// list takes.
+void draw_frame(uint64_t *seed, uint64_t jobs_max, uint64_t levels_max, uint64_t words, struct plain_frame *frame);
 
 // A list of levels, one for each job.
 void draw_list(uint64_t *seed, const struct plain_frame *frame, uint8_t *levels);

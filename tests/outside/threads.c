@@ -60,7 +60,7 @@ static void draw_sheets(void)
     static struct plain_frame frame;
     uint64_t seed = 7;
     for (size_t i = 0; i < SHEETS; i++) {
-        draw_frame(&seed, i % 2 == 0 ? 4 : 12, 4, &frame);
+        draw_frame(&seed, i % 2 == 0 ? 4 : 12, 4, PLAN_TABLE_WORDS, &frame);
         write_sheet(&sheets[i], &frame);
         set_name(&sheets[i], "drawn sheet %zu", i);
         if (i % 5 == 4)

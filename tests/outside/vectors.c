@@ -17,7 +17,7 @@ static void check_stored(const char *sheet_path, const struct plain_answer *answ
     snprintf(path, sizeof path, "%.*s.expected", stem, sheet_path);
     static struct sheet stored;
     load_sheet(&stored, path);
-    char text[TEXT_BYTES_MIN + 1];
+    char text[TEXT_BYTES_MIN];
     size_t length = plain_print(answer, text);
     check(length == stored.length && memcmp(text, stored.bytes, length) == 0,
           "the plain planner prints something else than is stored: %.*s", (int)length, text);
