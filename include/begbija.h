@@ -70,10 +70,10 @@ extern "C" {
  * filled with a pattern, and rounded up. memcpy and memset are glibc's there, which take next to nothing; what others take comes
  * on top.
  */
-#define BEGBIJA_PLAN_TEXT_STACK 94208 /* 65,536 of them are the table */
+#define BEGBIJA_PLAN_TEXT_STACK 90112 /* 65,536 of them are the table */
 #define BEGBIJA_PLAN_STACK 21504
-#define BEGBIJA_MEASURE_STACK 21504
-#define BEGBIJA_NEED_STACK 21504
+#define BEGBIJA_MEASURE_STACK 8704
+#define BEGBIJA_NEED_STACK 8704
 
 /*
  * What comes on top on Linux where the link binds lazily, that is, without -Wl,-z,now: the first time that memcpy or memset is
