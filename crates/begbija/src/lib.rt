@@ -1,6 +1,5 @@
 // The calls that the logger's firmware links.
 ghost use mathlib.Core.Path.{_≡_};
-ghost use Prim.Native.Nat.{_<_, _^_};
 ghost use lib.ListN.{length};
 ghost use Rattle.measure.specs.Measure.{measureOf};
 ghost use Rattle.measure.specs.Meaning.{Meaning};
@@ -9,35 +8,8 @@ ghost use Rattle.reply.specs.Answer.{Answers};
 ghost use Rattle.planner.specs.Demands.{Demands};
 ghost use Rattle.planner.specs.Need.{wordsOf};
 ghost use Rattle.report.specs.Report.{answerIn, reportOf, textAfter};
-ghost use Rattle.begbija.specs.Begbija.{minus, countOrRefusal, textNumber, needNumber, replyIn, figuresOf, measuredIn, TextDemands};
-use measure::Measured;
-use reply::Reply;
-
-// The signed number of every call.
-fn count_or_refusal(refusal: u32, count: usize) -> i64
-    requires { ⌜ count < 2 ^ 63 ⌝ }
-    ensures { λ q. ⌜ q ≡ countOrRefusal refusal count ⌝ }
-{
-    if refusal == 0 {
-        return count as i64;
-    }
-    -(refusal as i64)
-}
-
-// Writes the planner's reply for C.
-fn put_reply(r: Reply, reply: &mut [u64; 7])
-    ensures { λ q. ⌜ replyIn (now (reply .exit)) ≡ r ⌝ }
-{
-    *reply = [
-        r.refusal as u64,
-        r.line as u64,
-        r.field as u64,
-        r.time,
-        r.energy,
-        r.temperature,
-        r.peak,
-    ];
-}
+ghost use Rattle.c_values.specs.Values.{minus, replyIn, figuresOf, measuredIn};
+ghost use Rattle.begbija.specs.Begbija.{textNumber, needNumber, TextDemands};
 
 // The bytes of plan text written, or minus the refusal.
 #[no_mangle]
@@ -47,7 +19,7 @@ pub extern "C" fn begbija_plan_text(sheet: &[u8], text: &mut [u8]) -> i64
     ensures { λ q. ⌜ TextDemands (now (sheet .entry)) (length (now (text .entry))) (now (text .exit)) q ⌝ }
 {
     let r = report::write_plan(sheet, text);
-    count_or_refusal(r.refusal, r.length)
+    c_values::count_or_refusal(r.refusal, r.length)
 }
 
 // 0 for a plan, or minus the refusal; the figures of either in `reply`.
@@ -63,23 +35,8 @@ pub extern "C" fn begbija_plan(
     ensures { λ q. ⌜ Demands (now (sheet .entry)) (length (now (table .entry))) (length (now (levels .entry))) (now (levels .exit)) (replyIn (now (reply .exit))) ⌝ }
 {
     let r = planner::plan(sheet, table, levels);
-    put_reply(r, reply);
-    count_or_refusal(r.refusal, 0)
-}
-
-// Writes what the measuring call says for C.
-fn put_margins(m: Measured, margins: &mut [i64; 6])
-    requires { ⌜ (m .line < 2 ^ 63) × (m .field < 2 ^ 63) ⌝ }
-    ensures { λ q. ⌜ now (margins .exit) ≡ figuresOf m ⌝ }
-{
-    *margins = [
-        m.refusal as i64,
-        m.line as i64,
-        m.field as i64,
-        m.time,
-        m.energy,
-        m.temperature,
-    ];
+    c_values::put_reply(r, reply);
+    c_values::count_or_refusal(r.refusal, 0)
 }
 
 // 0 for a list that was measured, or minus the refusal; the figures of either in `margins`.
@@ -90,8 +47,8 @@ pub extern "C" fn begbija_measure(sheet: &[u8], levels: &[u8], margins: &mut [i6
     ensures { λ q. ⌜ Meaning (now (sheet .entry)) (now (levels .entry)) (measuredIn (now (margins .exit))) ⌝ }
 {
     let m = measure::measure(sheet, levels);
-    put_margins(m, margins);
-    count_or_refusal(m.refusal, 0)
+    c_values::put_margins(m, margins);
+    c_values::count_or_refusal(m.refusal, 0)
 }
 
 // The words that a sheet needs, or minus its refusal of 1 to 6.
@@ -100,5 +57,5 @@ pub extern "C" fn begbija_need(sheet: &[u8]) -> i64
     ensures { λ q. ⌜ q ≡ needNumber (wordsOf (now (sheet .entry))) ⌝ }
 {
     let n = planner::count_words(sheet);
-    count_or_refusal(n.refusal, n.words)
+    c_values::count_or_refusal(n.refusal, n.words)
 }

@@ -1,9 +1,11 @@
+-- The figures that are handed out are those of the measuring call; a line and a field are small, so that they fit.
+-- Assumes nothing.
 use native.Mathlib.Omega.{arith}
 use mathlib.Core.Path.{ap, _∙_}
 use Rattle.measure.specs.declared.Measured.{Measured}
 use Rattle.measure.proofs.Places.{Near, measured-near}
-use Rattle.begbija.specs.Begbija.{minus, figuresOf}
-use Rattle.begbija.proofs.Numbers.{number-only, handed-on}
+use Rattle.c_values.specs.Values.{minus, figuresOf}
+use Rattle.c_values.proofs.Numbers.{number-only, handed-on}
 use borrow.Author.Needs.{needs}
 use Rattle.begbija.proofs.begbija_measure.Statement.{statement}
 use Rattle.begbija.proofs.begbija_measure.Tie as tie
@@ -14,7 +16,7 @@ measure-requires c κs = search needs
 put-margins-requires : tie.Need-put-margins-requires
 put-margins-requires c κs =
     let n : Near (c .before .measure .result) = rw (c .before .measure .ensures .0) (measured-near _ _) in
-    (omega (arith, n), omega (arith, n))
+    record { line = omega (arith, n); field = omega (arith, n) }
 
 count-or-refusal-requires : tie.Need-count-or-refusal-requires
 count-or-refusal-requires c κs = search needs

@@ -1,6 +1,8 @@
+-- The number is that of the words counted, or of the refusal.
+-- Assumes nothing.
 use mathlib.Core.Path.{ap, _∙_}
 use Rattle.begbija.specs.Begbija.{needNumber}
-use Rattle.begbija.proofs.Numbers.{handed-on}
+use Rattle.c_values.proofs.Numbers.{handed-on}
 use borrow.Author.Needs.{needs}
 use Rattle.begbija.proofs.begbija_need.Statement.{statement}
 use Rattle.begbija.proofs.begbija_need.Tie as tie

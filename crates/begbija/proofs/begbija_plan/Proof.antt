@@ -1,7 +1,9 @@
+-- The reply that is handed out is the planner's, figure by figure, so all that the planner promises holds of it.
+-- Assumes nothing.
 use mathlib.Core.Path.{sym, ap, _∙_}
 use Rattle.reply.specs.declared.Reply.{Reply}
-use Rattle.begbija.specs.Begbija.{minus}
-use Rattle.begbija.proofs.Numbers.{number-only, handed-on}
+use Rattle.c_values.specs.Values.{minus}
+use Rattle.c_values.proofs.Numbers.{number-only, handed-on}
 use borrow.Author.Needs.{needs}
 use Rattle.begbija.proofs.begbija_plan.Statement.{statement}
 use Rattle.begbija.proofs.begbija_plan.Tie as tie

@@ -1,6 +1,9 @@
+-- The number and the text are the report's, and the demands in words follow from both.
+-- Assumes nothing.
 use mathlib.Core.Path.{ap, _∙_}
 use Rattle.begbija.specs.Begbija.{textNumber}
-use Rattle.begbija.proofs.Numbers.{handed-on, text-demands}
+use Rattle.c_values.proofs.Numbers.{handed-on}
+use Rattle.begbija.proofs.TextDemands.{text-demands}
 use borrow.Author.Needs.{needs}
 use Rattle.begbija.proofs.begbija_plan_text.Statement.{statement}
 use Rattle.begbija.proofs.begbija_plan_text.Tie as tie

@@ -1,24 +1,19 @@
--- The numbers of the calls, and the demands in words behind that of plan text.
+-- The demands in words behind the number of plan text.
 -- Assumes nothing.
 use mathlib.Core.Logic.{_⊎_, inl, inr, ⊎-elim}
 use mathlib.Core.Path.{_≡_, refl, sym, ap, _∙_}
 use mathlib.Core.Bool.{true≢false}
-use mathlib.Core.List.{List, [], _∷_, _++_}
-use Prim.Native.Nat.{ℕ, zero, suc, _≤_, _<_, _^_}
+use mathlib.Core.List.{List, _++_}
+use Prim.Native.Nat.{ℕ, zero, suc, _≤_, _<_}
 use native.Mathlib.Decide.{decLt}
 use native.Mathlib.Omega.{arith}
-use lib.IntN.{ℤ, pos, natAbs, _-ℤ_}
+use lib.IntN.{ℤ, pos, natAbs}
 use lib.Signed.{nonNeg}
 use lib.ListN.{length, take, drop, replicate}
 use lib.Seq.{take-at}
-use borrow.Author.Tests.{lt-ltb, le-ltb, eq-eqb, ne-eqb}
-use mir.Syntax.{w64}
-use mir.Val.{SFits, toZ, ofZ}
-use mir.Facts.{toZ-ofZ, toZ-pos}
-use Rattle.margin.proofs.Signed.{minus-is}
+use borrow.Author.Tests.{lt-ltb, le-ltb, ne-eqb}
 use Rattle.frame.specs.Sheet.{Sheet}
 use Rattle.frame.specs.Demands.{Outcome, planned, noPlan}
-use Rattle.measure.specs.declared.Measured.{Measured}
 use Rattle.store.specs.Store.{jobsMax}
 use Rattle.frame.specs.Run.{State}
 use Rattle.reply.specs.Answer.{Answer, refused, found, partAfter}
@@ -28,30 +23,8 @@ use Rattle.planner.proofs.Ways.{replyTo, answer-demands}
 use Rattle.plan_text.specs.Text.{textLeast, planText}
 use Rattle.report.specs.Report.{tableWords, answerIn, reportOf, textAfter}
 use Rattle.report.proofs.Told.{Told, answer-told, told-best}
-use Rattle.begbija.specs.Begbija.{minus, countOrRefusal, textNumber, figuresOf, TextDemands}
-
--- ---- the code's numbers
-
-pub number-count : (refusal count : ℕ) → refusal ≡ 0 → count < 2 ^ 63 → toZ w64 count ≡ countOrRefusal refusal count
-number-count refusal count e h = rw (eq-eqb refusal 0 e) (toZ-pos w64 h)
-
-pub number-refusal : (refusal count : ℕ) → ¬ (refusal ≡ 0) → refusal < 2 ^ 32 → toZ w64 (ofZ w64 (pos 0 -ℤ toZ w64 refusal)) ≡ countOrRefusal refusal count
-number-refusal refusal count n h = rw (ne-eqb refusal 0 n) (minus-is refusal (omega arith))
-
--- Where nothing is counted, 0 or minus the refusal.
-pub number-only : (refusal : ℕ) → countOrRefusal refusal 0 ≡ minus refusal
-number-only zero = refl
-number-only (suc k) = rw (ne-eqb (suc k) 0 (λ e. omega (arith, e))) refl
-
--- A signed number that was handed on says the same.
-pub handed-on : {z q : ℤ} → SFits w64 z → z ≡ q → toZ w64 (ofZ w64 z) ≡ q
-handed-on ok e = toZ-ofZ ok ∙ e
-
-pub figures-are : (q : Measured) {refusal line field time energy temperature : ℤ} → refusal ≡ pos (q .refusal) → line ≡ pos (q .line) → field ≡ pos (q .field) →
-    time ≡ q .time → energy ≡ q .energy → temperature ≡ q .temperature → (refusal ∷ line ∷ field ∷ time ∷ energy ∷ temperature ∷ []) ≡ figuresOf q
-figures-are q r l f t e k = cc (r, l, f, t, e, k)
-
--- ---- a number says one thing
+use Rattle.c_values.specs.Values.{minus}
+use Rattle.begbija.specs.Begbija.{textNumber, TextDemands}
 
 -- A refusal is no count of bytes.
 refusal-not : (k n : ℕ) → 1 ≤ k → ¬ (minus k ≡ pos n)

@@ -1,10 +1,12 @@
+-- The six figures are those of what was measured: a line and a field fit a signed number, and a margin is one.
+-- Assumes nothing.
 use native.Mathlib.Omega.{arith}
 use mir.Syntax.{w64}
 use mir.Facts.{toZ-ofZ, toZ-pos}
-use Rattle.begbija.proofs.Numbers.{figures-are}
+use Rattle.c_values.proofs.Numbers.{figures-are}
 use borrow.Author.Needs.{needs}
-use Rattle.begbija.proofs.put_margins.Statement.{statement}
-use Rattle.begbija.proofs.put_margins.Tie as tie
+use Rattle.c_values.proofs.put_margins.Statement.{statement}
+use Rattle.c_values.proofs.put_margins.Tie as tie
 
 cast-t3 : tie.Need-cast-t3
 cast-t3 c = search needs
@@ -19,7 +21,7 @@ returns : tie.Need-returns
 returns c =
     let a = c .before .before .before .before .before in
     let g = c .before .struct-told .given in
-    figures-are (a .args .m) (toZ-pos w64 (omega arith)) (toZ-pos w64 (a .pre .0)) (toZ-pos w64 (a .pre .1))
+    figures-are (a .args .m) (toZ-pos w64 (omega arith)) (toZ-pos w64 (a .pre .line)) (toZ-pos w64 (a .pre .field))
     (toZ-ofZ (record { sfits = g .1 .1 .1 .0 .1 })) (toZ-ofZ (record { sfits = g .1 .1 .1 .1 .0 .1 })) (toZ-ofZ (record { sfits = g .1 .1 .1 .1 .1 .0 .1 }))
 
 pub put-margins-spec : {M : Type 1} → statement M

@@ -1,9 +1,11 @@
+-- A count that fits a signed number is handed back as it is; a refusal with its sign turned.
+-- Assumes nothing.
 use native.Mathlib.Omega.{arith}
 use Rattle.margin.proofs.Signed.{minus-fits}
-use Rattle.begbija.proofs.Numbers.{number-count, number-refusal}
+use Rattle.c_values.proofs.Numbers.{number-count, number-refusal}
 use borrow.Author.Needs.{needs}
-use Rattle.begbija.proofs.count_or_refusal.Statement.{statement}
-use Rattle.begbija.proofs.count_or_refusal.Tie as tie
+use Rattle.c_values.proofs.count_or_refusal.Statement.{statement}
+use Rattle.c_values.proofs.count_or_refusal.Tie as tie
 
 cast-result : tie.Need-cast-result
 cast-result c = search needs

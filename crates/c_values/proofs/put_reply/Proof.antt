@@ -1,7 +1,9 @@
+-- The seven figures, one after another, are the fields of the reply.
+-- Assumes nothing.
 use mathlib.Core.Path.{refl}
 use borrow.Author.Needs.{needs}
-use Rattle.begbija.proofs.put_reply.Statement.{statement}
-use Rattle.begbija.proofs.put_reply.Tie as tie
+use Rattle.c_values.proofs.put_reply.Statement.{statement}
+use Rattle.c_values.proofs.put_reply.Tie as tie
 
 cast-t3 : tie.Need-cast-t3
 cast-t3 c = search needs
