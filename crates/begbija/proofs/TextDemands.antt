@@ -17,9 +17,9 @@ use Rattle.frame.specs.Demands.{Outcome, planned, noPlan}
 use Rattle.store.specs.Store.{jobsMax}
 use Rattle.frame.specs.Run.{State}
 use Rattle.reply.specs.Answer.{Answer, refused, found, partAfter}
-use Rattle.planner.specs.Order.{answerOf}
-use Rattle.planner.specs.Demands.{planIn, Demands}
-use Rattle.planner.proofs.Ways.{replyTo, answer-demands}
+use Rattle.demands.specs.Order.{answerOf}
+use Rattle.demands.specs.Demands.{planIn, Demands}
+use Rattle.demands.proofs.Ways.{replyTo, answer-demands}
 use Rattle.plan_text.specs.Text.{textLeast, planText}
 use Rattle.report.specs.Report.{tableWords, answerIn, reportOf, textAfter}
 use Rattle.report.proofs.Told.{Told, answer-told, told-best}

@@ -10,8 +10,8 @@ use lib.ListN.{take}
 use Rattle.store.specs.Store.{jobsMax}
 use Rattle.sheet.specs.Reading.{sheetIn}
 use Rattle.reply.specs.declared.Reply.{Reply}
-use Rattle.planner.specs.declared.Words.{Words}
-use Rattle.planner.specs.Demands.{planIn, Demands}
+use Rattle.need.specs.declared.Words.{Words}
+use Rattle.demands.specs.Demands.{planIn, Demands}
 use Rattle.plan_text.specs.Text.{textLeast, planText}
 use Rattle.report.specs.declared.Report.{Report}
 use Rattle.report.specs.Report.{tableWords}

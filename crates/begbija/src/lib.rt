@@ -3,10 +3,10 @@ ghost use mathlib.Core.Path.{_≡_};
 ghost use lib.ListN.{length};
 ghost use Rattle.measure.specs.Measure.{measureOf};
 ghost use Rattle.measure.specs.Meaning.{Meaning};
-ghost use Rattle.planner.specs.Order.{answerOf};
+ghost use Rattle.demands.specs.Order.{answerOf};
 ghost use Rattle.reply.specs.Answer.{Answers};
-ghost use Rattle.planner.specs.Demands.{Demands};
-ghost use Rattle.planner.specs.Need.{wordsOf};
+ghost use Rattle.demands.specs.Demands.{Demands};
+ghost use Rattle.need.specs.Need.{wordsOf};
 ghost use Rattle.report.specs.Report.{answerIn, reportOf, textAfter};
 ghost use Rattle.c_values.specs.Values.{minus, replyIn, figuresOf, measuredIn};
 ghost use Rattle.begbija.specs.Begbija.{textNumber, needNumber, TextDemands};
@@ -56,6 +56,6 @@ pub extern "C" fn begbija_measure(sheet: &[u8], levels: &[u8], margins: &mut [i6
 pub extern "C" fn begbija_need(sheet: &[u8]) -> i64
     ensures { λ q. ⌜ q ≡ needNumber (wordsOf (now (sheet .entry))) ⌝ }
 {
-    let n = planner::count_words(sheet);
+    let n = need::count_words(sheet);
     c_values::count_or_refusal(n.refusal, n.words)
 }

@@ -1,5 +1,1 @@
-pub mod Axes
-pub mod Order
-pub mod Demands
-pub mod Ways
-pub mod Need
+pub mod Start

@@ -9,7 +9,7 @@ use lib.ListN.{length, take, length-take}
 use lib.Seq.{take-all}
 use borrow.Author.Tests.{lt-ltb}
 use Rattle.sheet.specs.Reading.{readingOf}
-use Rattle.planner.specs.Order.{answerTo, answerOf}
+use Rattle.demands.specs.Order.{answerTo, answerOf}
 use Rattle.plan_lines.specs.Lines.{refusalLine}
 use Rattle.report.specs.Report.{answerIn}
 use Rattle.printout.specs.Printout.{printout}

@@ -9,7 +9,7 @@ use borrow.Author.Tests.{le-ltb}
 use Rattle.frame.specs.Demands.{planned, noPlan}
 use Rattle.sheet.proofs.Places.{refusal-line, refusal-field}
 use Rattle.reply.specs.Answer.{Answer, refused, found}
-use Rattle.planner.proofs.Ways.{answer-ways}
+use Rattle.demands.proofs.Ways.{answer-ways}
 use Rattle.plan_lines.specs.Lines.{refusalLine}
 use Rattle.store.specs.Store.{jobsMax}
 use Rattle.body.specs.Body.{endLine}

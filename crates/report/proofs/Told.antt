@@ -22,8 +22,8 @@ use Rattle.sheet.proofs.Ranges.{read-ranges}
 use Rattle.reply.specs.declared.Reply.{Reply}
 use Rattle.reply.specs.Answer.{Answer, refused, found, Answers}
 use Rattle.solve.proofs.Finding.{on-levels}
-use Rattle.planner.specs.Order.{answerOf}
-use Rattle.planner.proofs.Ways.{answer-ways}
+use Rattle.demands.specs.Order.{answerOf}
+use Rattle.demands.proofs.Ways.{answer-ways}
 use Rattle.plan_text.specs.Text.{textLeast, planText}
 use Rattle.writer.specs.Written.{Wrote}
 use Rattle.report.specs.declared.Report.{Report}

@@ -10,7 +10,7 @@ use Rattle.frame.specs.Sheet.{Sheet}
 use Rattle.frame.specs.Demands.{Outcome, planned, noPlan}
 use Rattle.store.specs.Store.{jobsMax}
 use Rattle.reply.specs.Answer.{Answer, refused, found}
-use Rattle.planner.specs.Order.{answerOf}
+use Rattle.demands.specs.Order.{answerOf}
 use Rattle.plan_text.specs.Text.{textLeast, planText}
 use Rattle.report.specs.declared.Report.{Report}
 

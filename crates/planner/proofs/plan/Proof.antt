@@ -1,7 +1,7 @@
 -- The equation by what was read, and the demands in words from it.
 use Rattle.sheet.proofs.Ranges.{reading-ranges}
-use Rattle.planner.proofs.Demands.{demands-hold}
-use Rattle.planner.proofs.Order.{answers-read}
+use Rattle.demands.proofs.Demands.{demands-hold}
+use Rattle.demands.proofs.Order.{answers-read}
 use borrow.Author.Needs.{needs}
 use Rattle.planner.proofs.plan.Statement.{statement}
 use Rattle.planner.proofs.plan.Tie as tie

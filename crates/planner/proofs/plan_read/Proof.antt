@@ -6,9 +6,10 @@ use Rattle.frame.specs.Sheet.{Sheet}
 use Rattle.frame.specs.Run.{State}
 use Rattle.frame.specs.Table.{need}
 use Rattle.store.specs.Figures.{sheetOf}
-use Rattle.planner.specs.Axes.{Lawful}
-use Rattle.planner.proofs.Axes.{axes, need-any, start-within}
-use Rattle.planner.proofs.Order.{found-start, answers-sheet, answers-seven, answers-eight, answers-nine, answers-looked}
+use Rattle.need.specs.Axes.{Lawful}
+use Rattle.need.proofs.Axes.{axes, need-any}
+use Rattle.planner.proofs.Start.{start-within, found-start}
+use Rattle.demands.proofs.Order.{answers-sheet, answers-seven, answers-eight, answers-nine, answers-looked}
 use borrow.Author.Needs.{needs}
 use Rattle.planner.proofs.plan_read.Statement.{statement}
 use Rattle.planner.proofs.plan_read.Tie as tie
@@ -37,7 +38,7 @@ frame-of-requires : tie.Need-frame-of-requires
 frame-of-requires c κs = lawful (c .before)
 
 need-of-requires : tie.Need-need-of-requires
-need-of-requires c κs = rw (c .frame-of .ensures) (lawful (c .before .before), refl)
+need-of-requires c κs = rw (c .frame-of .ensures) (record { lawful = lawful (c .before .before); axes = refl })
 
 refuse-requires : tie.Need-refuse-requires
 refuse-requires c κs = search needs

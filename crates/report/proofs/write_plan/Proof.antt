@@ -10,7 +10,7 @@ use Rattle.store.specs.Store.{jobsMax}
 use Rattle.sheet.specs.Reading.{SheetRead}
 use Rattle.sheet.proofs.Ranges.{reading-ranges}
 use Rattle.reply.specs.Answer.{Answers}
-use Rattle.planner.proofs.Order.{answers-read}
+use Rattle.demands.proofs.Order.{answers-read}
 use Rattle.report.specs.Report.{tableWords, answerIn}
 use Rattle.report.proofs.Told.{read-wrote, read-jobs, read-handed, read-few, Told, answer-told, told-refused, told-narrow, told-none, told-read, told-levels, told-plan}
 use borrow.Author.Needs.{needs}

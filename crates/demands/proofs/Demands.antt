@@ -25,8 +25,8 @@ use Rattle.sheet.proofs.Ranges.{read-ranges}
 use Rattle.reply.specs.declared.Reply.{Reply}
 use Rattle.reply.specs.Answer.{refused, found, refusedReply, plannedAs, Answers}
 use Rattle.reply.proofs.Peak.{peak-between}
-use Rattle.planner.specs.Order.{frameFound, answerFor, turnedAway, answerTo, answerOf}
-use Rattle.planner.specs.Demands.{Enough, planIn, Fixed, Demand3, Demands}
+use Rattle.demands.specs.Order.{frameFound, answerFor, turnedAway, answerTo, answerOf}
+use Rattle.demands.specs.Demands.{Enough, planIn, Fixed, Demand3, Demands}
 
 module _ {s : Sheet} {words bytes : ℕ} {part : List ℕ} {r : Reply} where
   -- ---- refused by 7, 8 or 9: nothing is said of a plan

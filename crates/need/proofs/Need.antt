@@ -10,7 +10,7 @@ use Rattle.refusal.specs.declared.RefusalCode.{RefusalCode}
 use Rattle.refusal.specs.Code.{numberOf, lineOf, fieldOf, codeAs}
 use Rattle.refusal.proofs.Apart.{Refuses, refuses-some, accepted-refused}
 use Rattle.sheet.specs.Reading.{SheetRead, readingOf}
-use Rattle.planner.specs.Need.{refusedNeed, wordsOf}
+use Rattle.need.specs.Need.{refusedNeed, wordsOf}
 
 module _ (t : List ℕ) (r : SheetRead) (e : r ≡ readingOf t) where
   pub words-refused : (c : RefusalCode) → Refuses (r .refusal) → c ≡ codeAs (numberOf (r .refusal)) (lineOf (r .refusal)) (fieldOf (r .refusal)) →

@@ -6,7 +6,7 @@ use Rattle.frame.specs.Table.{need}
 use Rattle.refusal.specs.declared.Refusal.{Refusal}
 use Rattle.refusal.specs.Code.{numberOf, accepted}
 use Rattle.sheet.specs.Reading.{readingOf, sheetIn}
-use Rattle.planner.specs.declared.Words.{Words}
+use Rattle.need.specs.declared.Words.{Words}
 
 -- A sheet that is refused by 1 to 6 has no need.
 abbrev pub refusedNeed : Refusal → Words

@@ -3,8 +3,8 @@ use native.Mathlib.Omega.{arith}
 use Rattle.frame.specs.Table.{energyCells, temperatureCells}
 use Rattle.store.specs.Figures.{sheetOf}
 use borrow.Author.Needs.{needs}
-use Rattle.planner.proofs.frame_of.Statement.{statement}
-use Rattle.planner.proofs.frame_of.Tie as tie
+use Rattle.need.proofs.frame_of.Statement.{statement}
+use Rattle.need.proofs.frame_of.Tie as tie
 
 ceil-div-requires : tie.Need-ceil-div-requires
 unfolding sheetOf

@@ -8,15 +8,13 @@ use native.Mathlib.Omega.{arith}
 use Rattle.thermal.specs.Rounding.{ceilDiv}
 use Rattle.thermal.proofs.Rounding.{ceil-least}
 use Rattle.frame.specs.Sheet.{Sheet, Ranges}
-use Rattle.frame.specs.Run.{start}
 use Rattle.frame.specs.Table.{energyCells, temperatureCells, need}
 use Rattle.store.specs.declared.Head.{Head}
 use Rattle.store.specs.Store.{jobsMax, levelsMax, worksMax}
 use Rattle.store.specs.Figures.{sheetOf}
 use Rattle.table.specs.declared.Frame.{Frame}
 use Rattle.table.specs.Table.{wordsMax, Axes}
-use Rattle.solve.specs.Solve.{Within}
-use Rattle.planner.specs.Axes.{Lawful, bare, axesOf}
+use Rattle.need.specs.Axes.{Lawful, bare, axesOf}
 
 -- A quotient that is rounded up is no larger than what is divided.
 pub ceil-most : (x k : ℕ) → 0 < k → ceilDiv x k ≤ x
@@ -73,8 +71,3 @@ module _ (h : Head) (store : List ℕ) (ok : Ranges (sheetOf h store)) where
   -- A need fits a signed 64-bit number.
   pub need-below : need (bare h) < 2 ^ 63
   need-below = omega (arith, need-small .2, need-is h)
-
--- The sheet's start is a state to plan from.
-pub start-within : {s : Sheet} → Ranges s → Within s (start s)
-start-within ok =
-    record { done = ok .jobs .low; level = ok .startLevel; time = omega arith; energy = omega arith; temperature = ok .cool; peak = omega arith }

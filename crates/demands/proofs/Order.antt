@@ -1,14 +1,11 @@
--- The order of the refusals, and the reply to what is found.
+-- The order of the refusals.
 -- Assumes nothing.
 use mathlib.Core.Path.{_≡_, refl, sym, ap, subst, _∙_}
 use mathlib.Core.List.{List}
-use Prim.Native.Nat.{ℕ, _-_, _≤_, _<_}
-use native.Mathlib.Omega.{arith}
+use Prim.Native.Nat.{ℕ, _≤_, _<_}
 use borrow.Author.Tests.{lt-ltb, le-ltb}
 use lib.ListN.{length}
 use Rattle.frame.specs.Sheet.{Sheet}
-use Rattle.frame.specs.Run.{State, start}
-use Rattle.frame.specs.Plan.{outcome, frameOutcome}
 use Rattle.frame.specs.Table.{need}
 use Rattle.store.specs.Figures.{sheetOf}
 use Rattle.refusal.specs.declared.Refusal.{Refusal}
@@ -18,17 +15,8 @@ use Rattle.refusal.proofs.Apart.{Refuses, refuses-some, accepted-refused}
 use Rattle.sheet.specs.Reading.{SheetRead, readingOf}
 use Rattle.table.specs.Table.{wordsMax}
 use Rattle.reply.specs.declared.Reply.{Reply}
-use Rattle.reply.specs.Answer.{refused, found, refusedReply, Answers}
-use Rattle.solve.specs.Solve.{foundFrom}
-use Rattle.planner.specs.Order.{frameFound, answerFor, turnedAway, answerTo, answerOf}
-
--- What is found from a run at the sheet's start is what is found for its frame.
-pub found-start : (s : Sheet) (a : State) {words words' bytes bytes' : List ℕ} {q : Reply} → a ≡ start s →
-    Answers (foundFrom s a) words words' bytes bytes' q → Answers (frameFound s) words words' bytes bytes' q
-found-start s a {words} {words'} {bytes} {bytes'} {q} e h =
-    let m : s.jobs - 0 ≡ s.jobs = omega arith in
-    let z = subst (λ (x : State). Answers (foundFrom s x) words words' bytes bytes' q) e h in
-    subst (λ (n : ℕ). Answers (found s n (start s) (outcome s n (start s))) words words' bytes bytes' q) m z
+use Rattle.reply.specs.Answer.{refused, refusedReply, Answers}
+use Rattle.demands.specs.Order.{frameFound, answerFor, turnedAway, answerTo, answerOf}
 
 module _ (words bytes : List ℕ) (r : SheetRead) (q : Reply) where
   abbrev given : List ℕ → List ℕ → Type 0

@@ -2,12 +2,12 @@
 use mathlib.Core.Path.{refl, _∙_}
 use native.Mathlib.Omega.{arith}
 use Rattle.sheet.proofs.Ranges.{reading-ranges}
-use Rattle.planner.specs.Axes.{Lawful}
-use Rattle.planner.proofs.Axes.{need-any, need-below}
-use Rattle.planner.proofs.Need.{words-refused, words-counted}
+use Rattle.need.specs.Axes.{Lawful}
+use Rattle.need.proofs.Axes.{need-any, need-below}
+use Rattle.need.proofs.Need.{words-refused, words-counted}
 use borrow.Author.Needs.{needs}
-use Rattle.planner.proofs.count_words.Statement.{statement}
-use Rattle.planner.proofs.count_words.Tie as tie
+use Rattle.need.proofs.count_words.Statement.{statement}
+use Rattle.need.proofs.count_words.Tie as tie
 
 read-requires : tie.Need-read-requires
 read-requires c κs = search needs
@@ -29,7 +29,7 @@ frame-of-requires : tie.Need-frame-of-requires
 frame-of-requires c κs = lawful c
 
 need-of-requires : tie.Need-need-of-requires
-need-of-requires c κs = rw (c .frame-of .ensures) (lawful (c .before), refl)
+need-of-requires c κs = rw (c .frame-of .ensures) (record { lawful = lawful (c .before); axes = refl })
 
 returns-2 : tie.Need-returns-2
 returns-2 c =

@@ -26,9 +26,9 @@ use Rattle.table.specs.Table.{wordsMax}
 use Rattle.sheet.proofs.Ranges.{read-ranges}
 use Rattle.reply.specs.declared.Reply.{Reply}
 use Rattle.reply.specs.Answer.{Answer, refused, found, replyOf, PeakOf, tableAfter, partAfter, Answers}
-use Rattle.planner.specs.Order.{frameFound, answerFor, turnedAway, answerTo, answerOf}
-use Rattle.planner.specs.Demands.{Demands}
-use Rattle.planner.proofs.Demands.{demands-hold}
+use Rattle.demands.specs.Order.{frameFound, answerFor, turnedAway, answerTo, answerOf}
+use Rattle.demands.specs.Demands.{Demands}
+use Rattle.demands.proofs.Demands.{demands-hold}
 
 module _ (P : Answer → Type 0) where
   either : (b : Bool) (x y : Answer) → P x → P y → P (cond b x y)

@@ -1,4 +1,3 @@
 pub mod Order
-pub mod Axes
 pub mod Demands
-pub mod Need
+pub mod Ways
