@@ -4,7 +4,7 @@ use mathlib.Core.Path.{_≡_, refl}
 use mathlib.Core.List.{List, [], _∷_}
 use Prim.Native.Nat.{ℕ}
 use Rattle.writer.specs.Decimal.{digitsIn, decimal, field}
-use Rattle.plan_lines.specs.Lines.{planLine, jobLine, refusalLine}
+use Rattle.plan_lines.specs.Lines.{lineEnd, planLine, jobLine, refusalLine}
 use Rattle.plan_lines.specs.Cases.{Case, cases}
 
 abbrev given : List Case → List (List ℕ)
@@ -16,5 +16,5 @@ expected [] = []
 expected (c ∷ cs) = c .expected ∷ expected cs
 
 pub cases-hold : given cases ≡ expected cases
-unfolding planLine jobLine refusalLine field decimal digitsIn
+unfolding planLine jobLine refusalLine lineEnd field decimal digitsIn
 cases-hold = refl

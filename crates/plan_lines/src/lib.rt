@@ -3,7 +3,19 @@ ghost use Prim.Native.Nat.{_+_, _≤_, _<_};
 ghost use lib.ListN.{length};
 ghost use Rattle.writer.specs.Decimal.{numberEnd};
 ghost use Rattle.writer.specs.Written.{Wrote};
-ghost use Rattle.plan_lines.specs.Lines.{planLine, jobLine, refusalLine, nameMax, planLineMax, jobLineMax, refusalLineMax};
+ghost use Rattle.plan_lines.specs.Lines.{lineEnd, planLine, jobLine, refusalLine, nameMax, lineEndMax, planLineMax, jobLineMax, refusalLineMax};
+
+// Three numbers and the end of the line.
+fn put_line_end(text: &mut [u8], at: usize, a: u64, b: u64, c: u64) -> usize
+    requires { ⌜ (a < numberEnd) × (b < numberEnd) × (c < numberEnd) × (at + lineEndMax ≤ length (now text)) ⌝ }
+    ensures { λ r. ⌜ Wrote (now (text .entry)) at (lineEnd a b c) (now (text .exit)) r ⌝ }
+    ensures { λ r. ⌜ r ≤ at + lineEndMax ⌝ }
+{
+    let a_end = writer::put_field(text, at, a);
+    let b_end = writer::put_field(text, a_end, b);
+    let c_end = writer::put_field(text, b_end, c);
+    writer::put_byte(text, c_end, b'\n')
+}
 
 // The plan's P line.
 pub fn put_plan_line(
@@ -20,10 +32,7 @@ pub fn put_plan_line(
 {
     let letter_end = writer::put_byte(text, at, b'P');
     let jobs_end = writer::put_field(text, letter_end, jobs);
-    let time_end = writer::put_field(text, jobs_end, time);
-    let energy_end = writer::put_field(text, time_end, energy);
-    let figures_end = writer::put_field(text, energy_end, temperature);
-    writer::put_byte(text, figures_end, b'\n')
+    put_line_end(text, jobs_end, time, energy, temperature)
 }
 
 // A job's Q line.
@@ -43,10 +52,7 @@ pub fn put_job_line(
     let tab_end = writer::put_bytes(text, at, b"Q\t");
     let name_end = writer::put_bytes(text, tab_end, name);
     let level_end = writer::put_field(text, name_end, level);
-    let time_end = writer::put_field(text, level_end, time);
-    let energy_end = writer::put_field(text, time_end, energy);
-    let job_end = writer::put_field(text, energy_end, temperature);
-    writer::put_byte(text, job_end, b'\n')
+    put_line_end(text, level_end, time, energy, temperature)
 }
 
 // The R line of a sheet that has no plan.
@@ -56,8 +62,5 @@ pub fn put_refusal_line(text: &mut [u8], at: usize, number: u64, line: u64, fiel
     ensures { λ r. ⌜ r ≤ at + refusalLineMax ⌝ }
 {
     let letter_end = writer::put_byte(text, at, b'R');
-    let number_end = writer::put_field(text, letter_end, number);
-    let line_end = writer::put_field(text, number_end, line);
-    let field_end = writer::put_field(text, line_end, field);
-    writer::put_byte(text, field_end, b'\n')
+    put_line_end(text, letter_end, number, line, field)
 }

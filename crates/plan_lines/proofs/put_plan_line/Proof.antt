@@ -12,17 +12,8 @@ put-byte-requires c κs = search needs
 put-field-requires : tie.Need-put-field-requires
 put-field-requires c κs = search needs
 
-put-field-requires-2 : tie.Need-put-field-requires-2
-put-field-requires-2 c κs = search needs
-
-put-field-requires-3 : tie.Need-put-field-requires-3
-put-field-requires-3 c κs = search needs
-
-put-field-requires-4 : tie.Need-put-field-requires-4
-put-field-requires-4 c κs = search needs
-
-put-byte-requires-2 : tie.Need-put-byte-requires-2
-put-byte-requires-2 c κs = search needs
+put-line-end-requires : tie.Need-put-line-end-requires
+put-line-end-requires c κs = search needs
 
 same-length : tie.Need-same-length
 same-length c = search needs
@@ -31,22 +22,11 @@ returns : tie.Need-returns
 unfolding planLine
 returns c =
     let end = c .before .before in
-    let temperature = end .before .before .before .before in
-    let energy = temperature .before .before .before .before in
-    let time = energy .before .before .before .before in
-    let m = time .before .before .before .before in
+    let m = end .before .before .before .before in
     let letter = m .before .before .before .before in
-    (join (join (join (join (join (letter .put-byte .ensures) (m .put-field .ensures .0)) (time .put-field2 .ensures .0)) (energy .put-field3 .ensures .0)) (temperature .put-field4 .ensures .0)) (end .put-byte2 .ensures), search needs)
+    (join (join (letter .put-byte .ensures) (m .put-field .ensures .0)) (end .put-line-end .ensures .0), search needs)
 
 pub put-plan-line-spec : {M : Type 1} → statement M
 put-plan-line-spec =
     tie.close
-    (tie.spec
-    put-byte-requires
-    put-field-requires
-    put-field-requires-2
-    put-field-requires-3
-    put-field-requires-4
-    put-byte-requires-2
-    same-length
-    returns)
+    (tie.spec put-byte-requires put-field-requires put-line-end-requires same-length returns)
