@@ -1,4 +1,4 @@
-// Spans the measuring call, the job names and the planner on the cases of standard input, and prints a line for each case.
+// Runs the measuring call, the job names and the planner on the cases of standard input, and prints a line for each case.
 //
 // A case is five parts, each ended by a form feed: a note, a sheet, a list of levels, a byte each, and how many words and bytes
 // to lend to the planner. Its line has the note; of the measuring call the refusal's number, line and field and the three margins;
@@ -6,16 +6,20 @@
 // temperature; and what it left in memory: the bytes of the part as digits, and the table's words in one figure.
 ghost use Prim.Native.Nat.{_≤_, _<_};
 ghost use lib.ListN.{length};
+ghost use Rattle.store.specs.Store.{jobsMax};
 use libc::STDOUT_FILENO;
 use measure::Measured;
 use numbers::Field;
 use reply::Reply;
 use std::num;
+use store::JOBS_MAX;
 
 // The memory of which the first words and bytes are lent to the planner.
-type Table = [u32; 16384];
+const TABLE_SIZE: usize = 16_384;
 
-type Part = [u8; 64];
+type Table = [u32; TABLE_SIZE];
+
+type Part = [u8; JOBS_MAX];
 
 // Writes a tab and a number.
 fn print_number(n: u64) {
@@ -65,9 +69,9 @@ fn print_reply(q: Reply) {
 
 // Writes a tab and the part: a level as its digit, 9 for a byte that is not written.
 fn print_part(part: &Part) {
-    let mut digits = [0u8; 64];
+    let mut digits = [0u8; JOBS_MAX];
     let mut i: usize = 0;
-    while i < 64 {
+    while i < JOBS_MAX {
         digits[i] = num::wrapping_add_u8(part[i], 48);
         i += 1;
     }
@@ -84,7 +88,7 @@ fn weigh(table: &Table) -> u64 {
     let mut sum: u64 = 0;
     let mut weighed: u64 = 0;
     let mut i: usize = 0;
-    while i < 16384 {
+    while i < TABLE_SIZE {
         sum = num::wrapping_add_u64(sum, wide(table[i]));
         weighed = num::wrapping_add_u64(weighed, sum);
         i += 1;
@@ -95,10 +99,10 @@ fn weigh(table: &Table) -> u64 {
 // Plans a sheet with the first words of a table of zeros and the first bytes of a part that holds no levels, and writes the reply
 // and what the whole table and part then hold.
 fn print_plan(s: &[u8], words: usize, bytes: usize)
-    requires { ⌜ (words ≤ 16384) × (bytes ≤ 64) ⌝ }
+    requires { ⌜ (words ≤ 16384) × (bytes ≤ jobsMax) ⌝ }
 {
-    let mut table: Table = [0; 16384];
-    let mut part: Part = [9; 64];
+    let mut table: Table = [0; TABLE_SIZE];
+    let mut part: Part = [9; JOBS_MAX];
     print_reply(planner::plan(s, &mut table[..words], &mut part[..bytes]));
     print_part(&part);
     print_number(weigh(&table));
@@ -124,12 +128,12 @@ fn print_case(note: &[u8], s: &[u8], levels: &[u8], words: &[u8], bytes: &[u8]) 
     print_measured(measure::measure(s, levels));
     print_name(s, 0);
     print_name(s, 1);
-    print_name(s, 64);
-    print_plan(s, number_in(words, 16384), number_in(bytes, 64));
+    print_name(s, JOBS_MAX);
+    print_plan(s, number_in(words, TABLE_SIZE), number_in(bytes, JOBS_MAX));
     io::write_all(STDOUT_FILENO, b"\n");
 }
 
-// Spans the case that starts at `at`, and hands back where the next one starts: beyond the input where none does.
+// Runs the case that starts at `at`, and hands back where the next one starts: beyond the input where none does.
 fn run_case(s: &[u8], at: usize) -> usize
     requires { ⌜ at ≤ length (now s) ⌝ }
     ensures { λ r. ⌜ at < r ⌝ }

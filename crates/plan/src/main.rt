@@ -5,6 +5,7 @@ ghost use Rattle.plan.specs.Input.{Within, More};
 use libc::STDERR_FILENO;
 use libc::STDIN_FILENO;
 use libc::STDOUT_FILENO;
+use plan_text::TEXT_LEAST;
 
 // How many bytes came, or that reading failed.
 enum Input {
@@ -44,7 +45,7 @@ fn read_sheet(sheet: &mut [u8]) -> Input
 
 // Prints the plan or the refusal of a sheet.
 fn print_plan(sheet: &[u8]) {
-    let mut text = [0u8; 4096];
+    let mut text = [0u8; TEXT_LEAST];
     let size = printout::put_printout(sheet, &mut text);
     if !io::write_all(STDOUT_FILENO, &text[..size]) {
         io::write_all(STDERR_FILENO, b"plan: standard output cannot be written\n");
