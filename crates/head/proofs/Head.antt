@@ -100,7 +100,7 @@ head-field line =
 
 -- The counts that the other lines depend on.
 pub head-counts : (line : List ℕ) (fields : Fields) → fields ≡ headFields line → fields .fault ≡ Sound →
-    (getD (fields .values) 0 0 ≤ jobsMax) × (getD (fields .values) 1 0 ≤ levelsMax)
+    record { jobs : getD (fields .values) 0 0 ≤ jobsMax; levels : getD (fields .values) 1 0 ≤ levelsMax }
 head-counts line fields e f =
     let h = head-held line (rw e at f) in
-    rw e (h .high 0 (omega arith) (omega arith), h .high 1 (omega arith) (omega arith))
+    rw e (record { jobs = h .high 0 (omega arith) (omega arith); levels = h .high 1 (omega arith) (omega arith) })

@@ -3,6 +3,7 @@
 -- Assumes nothing.
 use mathlib.Core.List.{List, [], _∷_, _++_}
 use Prim.Native.Nat.{ℕ, _+_, _*_}
+pub use Rattle.name_lines.specs.Name.{nameMax}
 use Rattle.writer.specs.Decimal.{field, fieldMax}
 
 -- "prints a P line (m, time, energy, final temperature)"; P is byte 80
@@ -18,10 +19,6 @@ jobLine name level time energy temperature =
 -- "or one R line (refusal, line, field)"; R is byte 82
 unfoldable pub refusalLine : ℕ → ℕ → ℕ → List ℕ
 refusalLine number line place = (82 ∷ []) ++ field number ++ field line ++ field place ++ (10 ∷ [])
-
--- "name (1 to 16 bytes, ..)"
-abbrev pub nameMax : ℕ
-nameMax = 16
 
 -- The most bytes of a P line, of a Q line and of an R line, with the byte 10 at the end.
 abbrev pub planLineMax : ℕ

@@ -54,8 +54,8 @@ read-figures-requires c κs = let z = c .before .before .before .before .before 
     record {
       cleared = c .before .before .before .before .before .before .before .before .before .pre .cleared;
       start = omega (arith, z .within, c .before .before .before .before .before .before .if1 .left);
-      jobs = m .0;
-      levels = m .1;
+      jobs = m .jobs;
+      levels = m .levels;
     }
 
 returns-4 : tie.Need-returns-4
