@@ -9,7 +9,7 @@ use native.Mathlib.Decide.{ℕ-discrete}
 use native.Mathlib.Omega.{arith}
 use lib.ListN.{length, getD, drop, length-drop}
 use borrow.Author.Tests.{eq-eqb}
-use Rattle.text.specs.Text.{before, until, beyond, ahead, part, all}
+use Rattle.text.specs.Text.{before, until, ahead, part, all}
 use Rattle.text.specs.Line.{LineAt}
 use Rattle.text.proofs.Text.{before-hit, before-pass, until-hit, until-pass, drop-here, length-until, ahead-lt, lt-ahead, all-low, all-high, all-on, all-none}
 use Rattle.text.proofs.Scanned.{line-part}
@@ -18,12 +18,12 @@ use Rattle.fields.specs.Fields.{opens}
 use Rattle.fields.specs.declared.Fault.the-variants.{Sound, Shape, Form}
 use Rattle.fields.proofs.Fields.{opens-tabs}
 use Rattle.fields.proofs.Within.{malformed, shapeless}
-use Rattle.name_lines.specs.Name.{isName, nameOn, nameFault}
+use Rattle.name_lines.specs.Name.{nameMax, isName, nameOn, nameFault}
 use Rattle.name_lines.proofs.Name.{name-form, name-all, name-some, name-few}
 use Rattle.fast_fields.specs.Take.{starts, isTaken}
 use Rattle.fast_fields.proofs.Onward.{all-count, Onward}
 use Rattle.fast_fields.proofs.Line.{SoundAt, sound-at, sound-taken, Starts, opens-starts, starts-onward, starts-opens}
-use Rattle.fast_name_lines.specs.Name.{nameEnd, nameLineEnd}
+use Rattle.fast_name_lines.specs.Name.{nameEnd, nameLineMax, nameLineEnd}
 
 -- ---- taking a name, by bytes
 
@@ -34,8 +34,8 @@ pub record Letters (s : List ℕ) (p k : ℕ) : Type 0 where
 
 -- Of the name at place p k bytes are passed, and the text has the room for all that are taken.
 pub record Passed (s : List ℕ) (p k : ℕ) : Type 0 where
-  pub few : k ≤ 16
-  pub room : p + 17 ≤ length s
+  pub few : k ≤ nameMax
+  pub room : p + (nameMax + 1) ≤ length s
   pub letters : Letters s p k
 
 pub letters-none : (s : List ℕ) (p : ℕ) → Letters s p 0
@@ -78,20 +78,20 @@ module _ (s : List ℕ) (p k : ℕ) (z : Letters s p k) (h : p + k < length s) w
         record { rest = rw e (byte ∙ all-on 33 126 _ _ a b); size = rw e (omega (arith, more)) }
 
     -- The byte goes on with no name.
-    pub letters-other : (16 ≤ k) ⊎ ((getD s (p + k) 0 < 33) ⊎ (126 < getD s (p + k) 0)) → p ≡ nameEnd s p
+    pub letters-other : (nameMax ≤ k) ⊎ ((getD s (p + k) 0 < 33) ⊎ (126 < getD s (p + k) 0)) → p ≡ nameEnd s p
     letters-other c =
         let f : (all 33 126 (until 10 (drop p s)) ≡ false) → isName (until 10 (drop p s)) ≡ true → ⊥ =
         λ e m. let w = clash (sym (name-all _ m) ∙ e) in omega arith in
         sym (name-none s p (λ a m.
         ⊎-elim
-        (λ (l : 16 ≤ k). omega (arith, more, name-few _ m, length-until 10 (drop p s)))
+        (λ (l : nameMax ≤ k). omega (arith, more, name-few _ m, length-until 10 (drop p s)))
         (⊎-elim
         (λ (b : getD s (p + k) 0 < 33). f (byte ∙ all-low 33 126 _ _ b) m)
         (λ (b : 126 < getD s (p + k) 0). f (byte ∙ all-high 33 126 _ _ (omega arith) b) m))
         c))
 
   -- A byte 10 ends the name; where it is empty, none is taken.
-  pub letters-name : k ≤ 16 → getD s (p + k) 0 ≡ 10 → p + k ≡ nameEnd s p
+  pub letters-name : k ≤ nameMax → getD s (p + k) 0 ≡ 10 → p + k ≡ nameEnd s p
   letters-name l e =
       let d = drop-here s (p + k) h in
       let b : before 10 (drop p s) ≡ k = omega (arith, z .size, ap (before 10) d ∙ before-hit 10 _ _ e) in
@@ -110,12 +110,12 @@ module _ (s : List ℕ) (p k : ℕ) (z : Letters s p k) (h : p + k < length s) w
 -- ---- a line J
 
 module _ (s : List ℕ) (from : ℕ) where
-  pub name-line-none : (isTaken s from 19 nameFault ≡ true → ⊥) → from ≡ nameLineEnd s from
+  pub name-line-none : (isTaken s from nameLineMax nameFault ≡ true → ⊥) → from ≡ nameLineEnd s from
   unfolding nameLineEnd
   name-line-none n = rw (not-so _ n) refl
 
   -- A name line has its letter, and its name.
-  name-parts : SoundAt s from 19 nameFault → (opens 74 1 (until 10 (drop from s)) ≡ true) × (isName (nameOn (until 10 (drop from s))) ≡ true)
+  name-parts : SoundAt s from nameLineMax nameFault → (opens 74 1 (until 10 (drop from s)) ≡ true) × (isName (nameOn (until 10 (drop from s))) ≡ true)
   unfolding nameFault
   name-parts z = go (opens 74 1 (until 10 (drop from s))) (isName (nameOn (until 10 (drop from s)))) (z .sound)
     where
@@ -124,14 +124,14 @@ module _ (s : List ℕ) (from : ℕ) where
       go true false e = absurd (malformed 2 e)
       go false b e = absurd (shapeless e)
 
-  pub name-unstarted : starts s from 74 19 ≡ false → from ≡ nameLineEnd s from
+  pub name-unstarted : starts s from 74 nameLineMax ≡ false → from ≡ nameLineEnd s from
   name-unstarted e =
       name-line-none (λ t.
-      let z = sound-at s from 19 nameFault t in
-      let c = clash (sym (opens-starts s from 74 19 1 (omega arith) (z .within) (name-parts z .0)) ∙ e) in
+      let z = sound-at s from nameLineMax nameFault t in
+      let c = clash (sym (opens-starts s from 74 nameLineMax 1 (omega arith) (z .within) (name-parts z .0)) ∙ e) in
       omega arith)
 
-  module _ (z : Starts s from 74 19) where
+  module _ (z : Starts s from 74 nameLineMax) where
     o : Onward s from (from + 2)
     o = starts-onward z (omega arith) (omega arith)
 
@@ -145,13 +145,13 @@ module _ (s : List ℕ) (from : ℕ) where
     unfolding nameLineEnd
     name-line-taken h =
         let n = name-taken s (from + 2) h in
-        let t = sound-taken s from 19 nameFault (record { within = z .within; ends = o .ends ∙ n .0; sound = name-sound (n .1) }) in
+        let t = sound-taken s from nameLineMax nameFault (record { within = z .within; ends = o .ends ∙ n .0; sound = name-sound (n .1) }) in
         rw t (omega (arith, o .end, name-so s (from + 2) (n .0) (n .1)))
 
     pub name-line-left : nameEnd s (from + 2) ≤ from + 2 → from ≡ nameLineEnd s from
     name-line-left h =
         name-line-none (λ t.
-        let y = sound-at s from 19 nameFault t in
+        let y = sound-at s from nameLineMax nameFault t in
         let n = ap isName (sym (o .rest)) ∙ name-parts y .1 in
         omega (arith, name-so s (from + 2) (sym (o .ends) ∙ y .ends) n, name-some _ n, length-until 10 (drop (from + 2) s)))
 
@@ -163,11 +163,11 @@ pub record NameLine (s : List ℕ) (p e : ℕ) : Type 0 where
 
 pub name-line : (s : List ℕ) (p e : ℕ) → e ≡ nameLineEnd s p → p < e → NameLine s p e
 unfolding nameLineEnd
-name-line s p e q h = go (isTaken s p 19 nameFault) refl q
+name-line s p e q h = go (isTaken s p nameLineMax nameFault) refl q
   where
-    go : (b : Bool) → isTaken s p 19 nameFault ≡ b → e ≡ cond b (p + before 10 (drop p s)) p → NameLine s p e
+    go : (b : Bool) → isTaken s p nameLineMax nameFault ≡ b → e ≡ cond b (p + before 10 (drop p s)) p → NameLine s p e
     go true t w =
-        let z = sound-at s p 19 nameFault t in
+        let z = sound-at s p nameLineMax nameFault t in
         let l = ahead-lt 10 (drop p s) (z .ends) in
         let n = length-drop p s in
         let line : LineAt s p (record { end = e; tabs = 1 }) =

@@ -1,6 +1,7 @@
 ghost use mathlib.Core.Path.{_≡_};
 ghost use Prim.Native.Nat.{_+_, _≤_};
 ghost use lib.ListN.{length};
+ghost use Rattle.name_lines.specs.Name.{nameMax};
 ghost use Rattle.fast_name_lines.specs.Name.{nameEnd, nameLineEnd};
 use name_lines::NAME_MAX;
 use text::LINE_END;
@@ -10,7 +11,7 @@ const NAME_LINE_MAX: usize = 2 + NAME_MAX + 1;
 
 // Passes the name that starts at `at` and ends at a byte 10: where it ends, or `at`.
 fn pass_name(s: &[u8], at: usize) -> usize
-    requires { ⌜ at + 17 ≤ length (now s) ⌝ }
+    requires { ⌜ at + (nameMax + 1) ≤ length (now s) ⌝ }
     ensures { λ r. ⌜ r ≡ nameEnd (now (s .entry)) at ⌝ }
 {
     let mut k: usize = 0;

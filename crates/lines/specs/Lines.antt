@@ -4,7 +4,7 @@
 use mathlib.Core.Path.{_≡_}
 use mathlib.Core.Bool.{cond}
 use mathlib.Core.List.{List}
-use Prim.Native.Nat.{ℕ, zero, suc, _+_, _≤_}
+use Prim.Native.Nat.{ℕ, zero, suc, _+_, _≤_, _^_}
 use lib.ListN.{length, drop}
 use Rattle.store.specs.Store.{storeSize}
 use Rattle.text.specs.Text.{until, beyond, ahead}
@@ -14,6 +14,10 @@ use Rattle.fields.specs.declared.Fault.the-variants.{Sound, Shape}
 use Rattle.line_kinds.specs.declared.Kind.{Kind}
 use Rattle.line_kinds.specs.Figures.{fieldsFor, put}
 use Rattle.lines.specs.declared.Stop.{Stop}
+
+-- Lines are counted in 64 bits, and a count stays below this. No sheet comes near it: `endLine` of the crate `body` bounds its lines.
+abbrev pub countEnd : ℕ
+countEnd = 2 ^ 64
 
 -- Lines read: the first fault or none, the line where the reading stopped, the text from that line on, and the store.
 pub record Found : Type 0 where

@@ -3,7 +3,7 @@ ghost use Prim.Native.Nat.{_+_, _<_, _≤_};
 ghost use lib.ListN.{length, drop};
 ghost use Rattle.store.specs.Store.{storeSize};
 ghost use Rattle.line_kinds.specs.Figures.{placesOf};
-ghost use Rattle.lines.specs.Lines.{blockFrom, Reads};
+ghost use Rattle.lines.specs.Lines.{countEnd, blockFrom, Reads};
 ghost use Rattle.lines.specs.Take.{takenFrom, tookIn};
 use fast_lines::Next;
 use fields::Fault;
@@ -50,7 +50,7 @@ pub fn read_block(
     n: usize,
     store: &mut [u32],
 ) -> Stop
-    requires { ⌜ (at ≤ length (now s)) × (line + n < 4096) × (base + n ≤ placesOf kind) × (length (now store) ≡ storeSize) ⌝ }
+    requires { ⌜ (at ≤ length (now s)) × (line + n < countEnd) × (base + n ≤ placesOf kind) × (length (now store) ≡ storeSize) ⌝ }
     ensures { λ r. ⌜ Reads (now (s .entry)) (blockFrom kind base n 0 (drop at (now (s .entry))) line (now (store .entry))) (line + n) (now (store .exit)) r ⌝ }
 {
     let usual = take_lines(s, at, kind, base, n, store);

@@ -17,13 +17,13 @@ use Rattle.fields.specs.declared.Fault.the-variants.{Sound, Shape, Form}
 use Rattle.fields.proofs.Fields.{opens-beyond}
 use Rattle.fields.proofs.Within.{cond-cases}
 use Rattle.fields.proofs.Faults.{fieldIn}
-use Rattle.name_lines.specs.Name.{isName, nameOn, nameFault}
+use Rattle.name_lines.specs.Name.{nameMax, isName, nameOn, nameFault}
 
 -- ---- a name, by places
 
-pub name-form : (t : List ℕ) → 0 < length t → length t ≤ 16 → isName t ≡ all 33 126 t
+pub name-form : (t : List ℕ) → 0 < length t → length t ≤ nameMax → isName t ≡ all 33 126 t
 unfolding isName
-name-form t h k = simp (ne-eqb (length t) 0 (λ e. omega arith), le-ltb 16 (length t) k)
+name-form t h k = simp (ne-eqb (length t) 0 (λ e. omega arith), le-ltb nameMax (length t) k)
 
 -- The bytes from place `from` up to place i are those of a name, so that the bytes from place i on decide.
 pub record Naming (s : List ℕ) (from to i : ℕ) : Type 0 where
@@ -36,21 +36,21 @@ module _ (s : List ℕ) (from to : ℕ) (k : to ≤ length s) where
   unfolding isName
   name-empty e = simp (eq-eqb (length (part from to s)) 0 (omega (arith, length-part from to s k)))
 
-  pub name-long : 16 < to - from → isName (part from to s) ≡ false
+  pub name-long : nameMax < to - from → isName (part from to s) ≡ false
   unfolding isName
   name-long h =
       let l = length-part from to s k in
-      simp (ne-eqb (length (part from to s)) 0 (λ e. omega arith), lt-ltb 16 (length (part from to s)) (omega arith))
+      simp (ne-eqb (length (part from to s)) 0 (λ e. omega arith), lt-ltb nameMax (length (part from to s)) (omega arith))
 
-  pub name-bytes : from < to → to - from ≤ 16 → isName (part from to s) ≡ all 33 126 (part from to s)
+  pub name-bytes : from < to → to - from ≤ nameMax → isName (part from to s) ≡ all 33 126 (part from to s)
   name-bytes h m = let l = length-part from to s k in name-form (part from to s) (omega arith) (omega arith)
 
 -- ---- what a name says of its bytes
 
 module _ (t : List ℕ) (e : isName t ≡ true) where
-  name-parts : (ltb 16 (length t) ≡ false) × (all 33 126 t ≡ true)
+  name-parts : (ltb nameMax (length t) ≡ false) × (all 33 126 t ≡ true)
   unfolding isName
-  name-parts = cond-else (ltb 16 (length t)) _ (cond-else (eqb (length t) 0) _ e .1)
+  name-parts = cond-else (ltb nameMax (length t)) _ (cond-else (eqb (length t) 0) _ e .1)
 
   pub name-all : all 33 126 t ≡ true
   name-all = name-parts .1
@@ -59,7 +59,7 @@ module _ (t : List ℕ) (e : isName t ≡ true) where
   unfolding isName
   name-some = let n : length t ≡ 0 → ⊥ = eqb-false _ _ (cond-else (eqb (length t) 0) _ e .0) in omega arith
 
-  pub name-few : length t ≤ 16
+  pub name-few : length t ≤ nameMax
   name-few = ltb-false _ _ (name-parts .0)
 
 -- ---- a line J

@@ -10,9 +10,13 @@ use Rattle.fields.specs.Fields.{opens}
 use Rattle.fields.specs.declared.Fault.{Fault}
 use Rattle.fields.specs.declared.Fault.the-variants.{Sound, Shape, Form}
 
+-- The most bytes of a name. The constant of the code has the same name.
+abbrev pub nameMax : ℕ
+nameMax = 16
+
 -- "name (1 to 16 bytes, each 33 to 126)"
 unfoldable pub isName : List ℕ → Bool
-isName t = cond (eqb (length t) 0) false (cond (ltb 16 (length t)) false (all 33 126 t))
+isName t = cond (eqb (length t) 0) false (cond (ltb nameMax (length t)) false (all 33 126 t))
 
 -- The name on a line J: what stands behind its letter.
 abbrev pub nameOn : List ℕ → List ℕ

@@ -1,18 +1,16 @@
 -- The name of each job of a sheet that is read is of the written form, and every line of the sheet is ended.
 -- Assumes nothing.
 use mathlib.Core.Path.{_≡_, refl, ap, sym, _∙_}
-use mathlib.Core.Bool.{Bool, true, false, cond}
+use mathlib.Core.Bool.{true, cond}
 use mathlib.Core.List.{List}
 use Prim.Native.Nat.{ℕ, zero, suc, _+_, _*_, _-_, _≤_, _<_}
 use native.Mathlib.Decide.{decLt}
 use native.Mathlib.Omega.{arith}
-use lib.Dec.{eqb, ltb}
 use lib.ListN.{length, getD, replicate}
-use borrow.Author.Tests.{ltb-false}
 use Rattle.text.specs.Text.{until, beyond, ahead}
-use Rattle.name_lines.specs.Name.{isName}
 use Rattle.fields.specs.Fields.{opens}
-use Rattle.name_lines.specs.Name.{nameFault}
+use Rattle.name_lines.specs.Name.{nameMax, isName, nameOn, nameFault}
+use Rattle.name_lines.proofs.Name.{name-few}
 use Rattle.fields.specs.declared.Fault.{Fault}
 use Rattle.fields.specs.declared.Fault.the-variants.{Sound, Shape}
 use Rattle.fields.proofs.Within.{malformed, shapeless}
@@ -28,15 +26,12 @@ use Rattle.body.specs.Body.{onward, changesFrom, jobsFrom, bodyFrom, bodyLine, 
 use Rattle.refusal.specs.declared.Refusal.the-variants.{Nothing}
 use Rattle.sheet.specs.Reading.{readingOf}
 use Rattle.sheet.proofs.Whole.{bodyOf, Whole, read-whole}
-use Rattle.names.specs.Name.{skip, nameAt, nameOf}
+use Rattle.name_places.specs.Place.{skip, nextName}
+use Rattle.name_places.proofs.Place.{skip-add}
+use Rattle.names.specs.Name.{nameAt, nameOf}
 use Rattle.names.proofs.Name.{name-some}
 
 -- ---- lines that are passed
-
-pub skip-add : (a b : ℕ) (t : List ℕ) → skip (a + b) t ≡ skip b (skip a t)
-unfolding skip
-skip-add zero b t = let z : 0 + b ≡ b = omega arith in rw z refl
-skip-add (suc a) b t = let z : suc a + b ≡ suc (a + b) = omega arith in rw z (skip-add a b (beyond 10 t))
 
 -- The first n lines of the text t are ended, and u comes after them.
 record Passed (n : ℕ) (t u : List ℕ) : Type 0 where
@@ -108,11 +103,11 @@ changes-passes l (suc n) p t ln st =
 
 -- ---- the names of jobs
 
-name-formed : (line : List ℕ) → nameFault line ≡ Sound → isName (beyond 9 line) ≡ true
+name-formed : (line : List ℕ) → nameFault line ≡ Sound → isName (nameOn line) ≡ true
 unfolding nameFault
 name-formed line =
-    let P : Fault → Type 0 = λ f. f ≡ Sound → isName (beyond 9 line) ≡ true in
-    cond-cases P (opens 74 1 line) _ _ (λ a. cond-cases P (isName (beyond 9 line)) _ _ (λ b e. b) (λ b e. absurd (malformed 2 e))) (λ a e. absurd (shapeless e))
+    let P : Fault → Type 0 = λ f. f ≡ Sound → isName (nameOn line) ≡ true in
+    cond-cases P (opens 74 1 line) _ _ (λ a. cond-cases P (isName (nameOn line)) _ _ (λ b e. b) (λ b e. absurd (malformed 2 e))) (λ a e. absurd (shapeless e))
 
 -- The text t has a lines and those of n jobs at l levels, and u comes after them; each job's name is of the written form.
 record Named (l n a : ℕ) (t u : List ℕ) : Type 0 where
@@ -130,7 +125,7 @@ named-add {l} {n} {a} {b} {t} p w =
     }
 
 -- One job more, in front.
-named-more : {l n : ℕ} {t u v : List ℕ} → isName (beyond 9 (until 10 t)) ≡ true → Passed (l + 1) t u → Named l n 0 u v → Named l (suc n) 0 t v
+named-more : {l n : ℕ} {t u v : List ℕ} → isName (nextName t) ≡ true → Passed (l + 1) t u → Named l n 0 u v → Named l (suc n) 0 t v
 unfolding nameAt skip
 named-more {l} {n} {t} {u} {v} f p w = record { passed = rw (z n) (y .passed); named = go }
   where
@@ -190,13 +185,6 @@ lines-ahead t n e h = (sheet-named t (read-whole t e)) .passed .ended n h
 pub job-name-form : (t : List ℕ) (i : ℕ) → (readingOf t) .refusal ≡ Nothing → i < (readingOf t) .head .jobs → isName (nameOf t i) ≡ true
 job-name-form t i e h = rw (name-some t i (readingOf t) refl h) ((sheet-named t (read-whole t e)) .named i h)
 
--- A name has at most 16 bytes.
-name-short : (t : List ℕ) → isName t ≡ true → length t ≤ 16
-unfolding isName
-name-short t =
-    let P : Bool → Type 0 = λ b. b ≡ true → length t ≤ 16 in
-    let none : P false = λ e. absurd (let z : _≡_ {A = ℕ} 0 1 = cc in omega arith) in
-    cond-cases P (eqb (length t) 0) _ _ (λ a. none) (λ a. cond-cases P (ltb 16 (length t)) _ _ (λ b. none) (λ b e. ltb-false _ _ b))
-
-pub job-name-short : (t : List ℕ) (i : ℕ) → (readingOf t) .refusal ≡ Nothing → i < (readingOf t) .head .jobs → length (nameOf t i) ≤ 16
-job-name-short t i e h = name-short (nameOf t i) (job-name-form t i e h)
+-- It has at most 16 bytes.
+pub job-name-short : (t : List ℕ) (i : ℕ) → (readingOf t) .refusal ≡ Nothing → i < (readingOf t) .head .jobs → length (nameOf t i) ≤ nameMax
+job-name-short t i e h = name-few (nameOf t i) (job-name-form t i e h)

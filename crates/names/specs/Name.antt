@@ -3,21 +3,16 @@
 -- Assumes nothing.
 use mathlib.Core.Bool.{cond}
 use mathlib.Core.List.{List, []}
-use Prim.Native.Nat.{ℕ, zero, suc}
+use Prim.Native.Nat.{ℕ}
 use lib.Dec.{leb}
-use Rattle.text.specs.Text.{until, beyond}
+use Rattle.name_places.specs.Place.{skip, nextName}
 use Rattle.store.specs.declared.Head.{Head}
 use Rattle.body.specs.Body.{linesBefore}
 use Rattle.sheet.specs.Reading.{readingOf}
 
--- The text after its first n lines.
-unfoldable pub skip : ℕ → List ℕ → List ℕ
-skip zero t = t
-skip (suc n) t = skip n (beyond 10 t)
-
--- What stands behind the first byte 9 of the line that n lines come before: the name, where it is a J line.
+-- The name on the J line that n lines come before.
 unfoldable pub nameAt : ℕ → List ℕ → List ℕ
-nameAt n t = beyond 9 (until 10 (skip n t))
+nameAt n t = nextName (skip n t)
 
 -- The name of job i, from 0. A refused sheet has no jobs.
 unfoldable pub nameOf : List ℕ → ℕ → List ℕ

@@ -1,51 +1,16 @@
 ghost use mathlib.Core.Path.{_≡_};
 ghost use Prim.Native.Nat.{_≤_};
-ghost use lib.ListN.{length, drop};
-ghost use Rattle.text.specs.Text.{until, beyond};
 ghost use Rattle.store.specs.Store.{jobsMax, levelsMax};
 ghost use Rattle.body.specs.Body.{jobLines, linesBefore};
-ghost use Rattle.names.specs.Name.{skip, nameAt, nameOf};
+ghost use Rattle.names.specs.Name.{nameAt, nameOf};
 use store::STORE_SIZE;
 
-// Where the text goes on after the next n lines from `from`; its end where it has fewer.
-pub fn skip_lines(s: &[u8], from: usize, n: usize) -> usize
-    requires { ⌜ from ≤ length (now s) ⌝ }
-    ensures { λ r. ⌜ (r ≤ length (now (s .entry))) × (drop r (now (s .entry)) ≡ skip n (drop from (now (s .entry)))) ⌝ }
-{
-    let mut p = from;
-    let mut k: usize = 0;
-    while k < n {
-        let e = text::find(s, p, s.len(), 10);
-        if e == s.len() {
-            return e;
-        }
-        p = e + 1;
-        k += 1;
-    }
-    p
-}
-
-// The second field of the line that starts at `from`, as a part of the text; nothing where there is none.
-pub fn second_field(s: &[u8], from: usize) -> &[u8]
-    requires { ⌜ from ≤ length (now s) ⌝ }
-    ensures { λ r. ⌜ now r ≡ beyond 9 (until 10 (drop from (now (s .entry)))) ⌝ }
-{
-    let l = text::scan_line(s, from);
-    let e = l.end;
-    let t = text::find(s, from, e, 9);
-    if t == e {
-        return &s[..0];
-    }
-    let a = t + 1;
-    &s[a..e]
-}
-
-// The second field of the line that n lines come before.
+// The name on the J line that n lines come before.
 pub fn name_at(s: &[u8], n: usize) -> &[u8]
     ensures { λ r. ⌜ now r ≡ nameAt n (now (s .entry)) ⌝ }
 {
-    let p = skip_lines(s, 0, n);
-    second_field(s, p)
+    let p = name_places::skip_lines(s, 0, n);
+    name_places::name_on(s, p)
 }
 
 // The lines of a job on a sheet of l levels.
@@ -58,7 +23,7 @@ pub fn job_lines(l: usize) -> usize
 
 // How many lines come before the J line of job i.
 pub fn lines_before(l: usize, i: usize) -> usize
-    requires { ⌜ (l ≤ levelsMax) × (i ≤ jobsMax) ⌝ }
+    requires { ⌜ record { levels : l ≤ levelsMax; jobs : i ≤ jobsMax } ⌝ }
     ensures { λ r. ⌜ r ≡ linesBefore l i ⌝ }
 {
     2 + l + l * l + i * job_lines(l)

@@ -3,6 +3,7 @@
 -- Assumes nothing.
 use mathlib.Core.List.{List, [], _∷_, _++_}
 use Prim.Native.Nat.{ℕ, _+_, _*_}
+use Rattle.name_lines.specs.Name.{nameMax}
 use Rattle.writer.specs.Decimal.{field, fieldMax}
 
 -- Three fields and the byte 10, with which each of these lines ends.
@@ -22,10 +23,6 @@ jobLine name level time energy temperature =
 -- "or one R line (refusal, line, field)"; R is byte 82
 unfoldable pub refusalLine : ℕ → ℕ → ℕ → List ℕ
 refusalLine number line place = (82 ∷ []) ++ lineEnd number line place
-
--- "name (1 to 16 bytes, ..)"
-abbrev pub nameMax : ℕ
-nameMax = 16
 
 -- The most bytes of a line's end, of a P line, of a Q line and of an R line.
 abbrev pub lineEndMax : ℕ

@@ -1,9 +1,10 @@
 // The lines of plan text. Each function hands back the place after its line.
 ghost use Prim.Native.Nat.{_+_, _≤_, _<_};
 ghost use lib.ListN.{length};
+ghost use Rattle.name_lines.specs.Name.{nameMax};
 ghost use Rattle.writer.specs.Decimal.{numberEnd};
 ghost use Rattle.writer.specs.Written.{Wrote};
-ghost use Rattle.plan_lines.specs.Lines.{lineEnd, planLine, jobLine, refusalLine, nameMax, lineEndMax, planLineMax, jobLineMax, refusalLineMax};
+ghost use Rattle.plan_lines.specs.Lines.{lineEnd, planLine, jobLine, refusalLine, lineEndMax, planLineMax, jobLineMax, refusalLineMax};
 
 // Three numbers and the end of the line.
 fn put_line_end(text: &mut [u8], at: usize, a: u64, b: u64, c: u64) -> usize

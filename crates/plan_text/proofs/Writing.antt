@@ -8,7 +8,6 @@ use native.Mathlib.Numerals.{add-one}
 use native.Mathlib.Omega.{arith}
 use lib.ListN.{length, getD, take, drop, drop-of-length-le}
 use lib.Seq.{drop-cons, getD-take, length-take-le}
-use Rattle.text.specs.Text.{until, beyond}
 use Rattle.frame.specs.Sheet.{Sheet, Ranges}
 use Rattle.frame.specs.Run.{State, start, step, exactRun}
 use Rattle.frame.specs.Demands.{figures}
@@ -25,13 +24,15 @@ use Rattle.sheet.proofs.Ranges.{reading-ranges}
 use Rattle.step.specs.Store.{Stored, Rests}
 use Rattle.step.proofs.Store.{rests}
 use Rattle.step.proofs.Levels.{step-level}
-use Rattle.names.specs.Name.{skip, nameAt, nameOf}
+use Rattle.name_places.specs.Place.{skip, nextName}
+use Rattle.name_places.proofs.Place.{skip-add}
+use Rattle.names.specs.Name.{nameAt, nameOf}
 use Rattle.names.proofs.Name.{name-some}
-use Rattle.names.proofs.Forms.{skip-add, job-name-short}
+use Rattle.names.proofs.Forms.{job-name-short}
 use Rattle.writer.specs.Written.{Wrote}
 use Rattle.writer.proofs.Written.{join, wrote-none, wrote-length}
 use Rattle.plan_lines.specs.Lines.{planLine, jobLine, jobLineMax}
-use Rattle.plan_text.specs.Text.{secondField, jobTextFrom, planText}
+use Rattle.plan_text.specs.Text.{jobTextFrom, planText}
 use Rattle.plan_text.specs.Handed.{Handed, Ended}
 
 -- One Q line, and the rest.
@@ -82,9 +83,9 @@ module _ {t : List ℕ} {h : Head} {store levels : List ℕ} (w : Handed t h sto
           rests v run _ ranges (omega (arith, g .small .done, m)) (g .level) (w .below i l) (omega (arith, g .small .time, m)) (omega (arith, g .small .energy, m)) (omega (arith, g .small .temperature))
 
       -- The line that is reached has the job's name.
-      pub name-here : secondField t p ≡ nameOf t i
+      pub name-here : nextName (drop p t) ≡ nameOf t i
       unfolding nameAt
-      name-here = ap (λ (x : List ℕ). beyond 9 (until 10 x)) (g .reached) ∙ sym (name-some t i _ (w .read) l)
+      name-here = ap nextName (g .reached) ∙ sym (name-some t i _ (w .read) l)
 
       module _ (b : Run) (x : stateOf b ≡ step (sheetOf h store) (stateOf run) (getD levels i 0)) where
         -- The job has a Q line.
@@ -105,7 +106,7 @@ module _ {t : List ℕ} {h : Head} {store levels : List ℕ} (w : Handed t h sto
             }
 
         pub writing-next : (text' : List ℕ) (p' q' n : ℕ) →
-            Wrote text q (jobLine (secondField t p) (b .level) (b .time) (b .energy) (b .temperature)) text' q' → q' ≤ q + jobLineMax →
+            Wrote text q (jobLine (nextName (drop p t)) (b .level) (b .time) (b .energy) (b .temperature)) text' q' → q' ≤ q + jobLineMax →
             n ≡ jobLines (h .levels) → p' ≤ length t → drop p' t ≡ skip n (drop p t) → Writing t h store levels old at text' b p' q' (i + 1)
         writing-next text' p' q' n u f k y d =
             let j = getD levels i 0 in
@@ -134,10 +135,10 @@ module _ {t : List ℕ} {h : Head} {store levels : List ℕ} (w : Handed t h sto
         let d : length (take (h .jobs) levels) ≤ i = omega (arith, length-take-le (h .jobs) levels (w .each)) in
         (g .rest text q (rw (drop-of-length-le (take (h .jobs) levels) {i = i} d) (wrote-none text q (omega (arith, g .long)))), f)
 
--- A name that is handed over is the line's second field.
-pub named-line : (old name field new : List ℕ) (from next level time energy temperature : ℕ) → name ≡ field →
-    Wrote old from (jobLine name level time energy temperature) new next → Wrote old from (jobLine field level time energy temperature) new next
-named-line old name field new from next level time energy temperature e w = rw e at w
+-- A name that is handed over is the one on the line.
+pub named-line : (old name other new : List ℕ) (from next level time energy temperature : ℕ) → name ≡ other →
+    Wrote old from (jobLine name level time energy temperature) new next → Wrote old from (jobLine other level time energy temperature) new next
+named-line old name other new from next level time energy temperature e w = rw e at w
 
 -- The P line of a list's figures, and then its Q lines, are its text.
 pub whole-text : (t : List ℕ) (s : Sheet) (js old mid new : List ℕ) (m p q : ℕ) (a : State) → m ≡ s.jobs → a ≡ exactRun s (start s) js →

@@ -2,8 +2,6 @@
 -- Assumes nothing.
 use mathlib.Core.List.{List, [], _∷_, _++_}
 use Prim.Native.Nat.{ℕ, suc}
-use lib.ListN.{drop}
-use Rattle.text.specs.Text.{until, beyond}
 use Rattle.frame.specs.Sheet.{Sheet}
 use Rattle.frame.specs.Run.{State, start, step}
 use Rattle.frame.specs.Demands.{Figures, figures}
@@ -13,10 +11,6 @@ use Rattle.names.specs.Name.{nameOf}
 -- "part under m bytes (text: under 4,096) | 9"
 abbrev pub textLeast : ℕ
 textLeast = 4096
-
--- What stands behind the first byte 9 of the line that starts at place p: the name, where it is a J line.
-abbrev pub secondField : List ℕ → ℕ → List ℕ
-secondField t p = beyond 9 (until 10 (drop p t))
 
 -- "for each job a Q line (name, level, then time, energy and temperature after the job)": the jobs from job i on, in the exact run
 -- from the state a.

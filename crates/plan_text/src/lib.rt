@@ -1,11 +1,12 @@
 ghost use Prim.Native.Nat.{_+_, _*_, _≤_};
-ghost use lib.ListN.{length, take};
+ghost use lib.ListN.{length, take, drop};
 ghost use Rattle.frame.specs.Run.{start};
 ghost use Rattle.store.specs.Figures.{sheetOf};
+ghost use Rattle.name_places.specs.Place.{nextName};
 ghost use Rattle.names.specs.Name.{nameOf};
 ghost use Rattle.writer.specs.Written.{Wrote};
 ghost use Rattle.plan_lines.specs.Lines.{jobLine, jobLineMax};
-ghost use Rattle.plan_text.specs.Text.{textLeast, secondField, jobTextFrom, planText};
+ghost use Rattle.plan_text.specs.Text.{textLeast, jobTextFrom, planText};
 ghost use Rattle.plan_text.specs.Handed.{Ended, Handed};
 use run::Run;
 use store::Head;
@@ -17,14 +18,14 @@ pub const TEXT_LEAST: usize = 4_096;
 // Writes the Q line of a job that ends in `run`; its J line starts at `p`.
 fn put_job(s: &[u8], p: usize, text: &mut [u8], at: usize, run: Run) -> usize
     requires { ⌜ Ended (now s) p (now text) at run ⌝ }
-    ensures { λ r. ⌜ Wrote (now (text .entry)) at (jobLine (secondField (now (s .entry)) p) (run .level) (run .time) (run .energy) (run .temperature)) (now (text .exit)) r ⌝ }
+    ensures { λ r. ⌜ Wrote (now (text .entry)) at (jobLine (nextName (drop p (now (s .entry)))) (run .level) (run .time) (run .energy) (run .temperature)) (now (text .exit)) r ⌝ }
     ensures { λ r. ⌜ r ≤ at + jobLineMax ⌝ }
 {
     let level = run.level as u64;
     let time = run.time;
     let energy = run.energy;
     let temperature = run.temperature;
-    let name = names::second_field(s, p);
+    let name = name_places::name_on(s, p);
     plan_lines::put_job_line(text, at, name, level, time, energy, temperature)
 }
 
@@ -45,13 +46,13 @@ fn put_jobs(
     let steady = states.levels;
     let l = head.levels as usize;
     let mut run = step::start_of(head);
-    let mut p = names::skip_lines(s, 0, names::lines_before(l, 0));
+    let mut p = name_places::skip_lines(s, 0, names::lines_before(l, 0));
     let mut q = at;
     let mut i: usize = 0;
     while i < head.jobs as usize {
         run = step::next_job(run, store, &steady, levels[i] as u32);
         q = put_job(s, p, text, q, run);
-        p = names::skip_lines(s, p, names::job_lines(l));
+        p = name_places::skip_lines(s, p, names::job_lines(l));
         i += 1;
     }
     q

@@ -1,1 +1,2 @@
+pub mod Fault
 pub mod Apart

@@ -1,9 +1,19 @@
--- What is refused (document 01, 'What is refused'): a refusal's number, line and field, and what follows where there is none.
+-- What is refused (document 01, 'What is refused'): a line's fault as a refusal, a refusal's number, line and field, and what follows
+-- where there is none.
 -- Assumes nothing.
 use Prim.Native.Nat.{ℕ}
+use Rattle.fields.specs.declared.Fault.{Fault}
+use Rattle.fields.specs.declared.Fault.the-variants.{Sound, Shape, Form, Range}
 use Rattle.refusal.specs.declared.Refusal.{Refusal}
 use Rattle.refusal.specs.declared.RefusalCode.{RefusalCode}
 use Rattle.refusal.specs.declared.Refusal.the-variants.{Nothing, TooLong, Line, Form as FormAt, Range as RangeAt, Hot, Trailing}
+
+-- A fault of a line as a refusal: 2 for its letter or its count of fields, 3 for a field's form, 4 for a field's range.
+abbrev pub refusalOf : Fault → ℕ → Refusal
+refusalOf Sound line = Nothing
+refusalOf Shape line = Line line
+refusalOf (Form field) line = FormAt line field
+refusalOf (Range field) line = RangeAt line field
 
 -- The number that document 01 gives a refusal; 0 for none.
 abbrev pub numberOf : Refusal → ℕ

@@ -1,5 +1,6 @@
 ghost use mathlib.Core.Path.{_≡_};
-ghost use Rattle.refusal.specs.Code.{numberOf, lineOf, fieldOf, codeAs};
+ghost use Rattle.refusal.specs.Code.{refusalOf, numberOf, lineOf, fieldOf, codeAs};
+use fields::Fault;
 
 // Why a sheet is refused, with line and field where there are any (document 01, 'What is refused').
 pub enum Refusal {
@@ -17,6 +18,18 @@ pub struct RefusalCode {
     pub number: u32,
     pub line: usize,
     pub field: usize,
+}
+
+// A fault of a line as a refusal.
+pub fn as_refusal(f: Fault, line: usize) -> Refusal
+    ensures { λ r. ⌜ r ≡ refusalOf f line ⌝ }
+{
+    match f {
+        Fault::Sound => Refusal::Nothing,
+        Fault::Shape => Refusal::Line(line),
+        Fault::Form(field) => Refusal::Form(line, field),
+        Fault::Range(field) => Refusal::Range(line, field),
+    }
 }
 
 // The three side by side.

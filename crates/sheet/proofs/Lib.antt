@@ -1,4 +1,4 @@
-pub mod Head
+pub mod Sheet
 pub mod Whole
 pub mod Ranges
 pub mod Places

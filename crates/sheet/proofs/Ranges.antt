@@ -23,8 +23,9 @@ use Rattle.body.specs.Body.{bodyLine, onward, changesFrom, jobsFrom, bodyFrom}
 use Rattle.refusal.specs.declared.Refusal.the-variants.{Nothing}
 use Rattle.store.specs.Store.{jobsMax, levelsMax, changesMax, worksMax, powers, changeTimes, changeEnergies, jobTimes, jobEnergies, decays, storeSize}
 use Rattle.sheet.specs.declared.Reading.{Reading}
-use Rattle.sheet.specs.Reading.{headAs, SheetRead, readIn, headLos, headHis, readingOf, sheetIn}
+use Rattle.sheet.specs.Reading.{SheetRead, readIn, readingOf, sheetIn}
 use Rattle.store.specs.Figures.{figureAt, sheetOf}
+use Rattle.head.specs.Head.{headAs, headLos, headHis}
 use Rattle.sheet.proofs.Whole.{read-whole}
 
 -- ---- the lines after the H line

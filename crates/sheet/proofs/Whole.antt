@@ -22,11 +22,12 @@ use Rattle.lines.proofs.Places.{Placed}
 use Rattle.body.specs.Body.{bodyLine, endLine, bodyFrom}
 use Rattle.refusal.specs.declared.Refusal.{Refusal}
 use Rattle.refusal.specs.declared.Refusal.the-variants.{Nothing, TooLong, Line, Hot, Trailing}
-use Rattle.refusal.specs.Code.{numberOf, lineOf, fieldOf}
+use Rattle.refusal.specs.Code.{refusalOf, numberOf, lineOf, fieldOf}
 use Rattle.store.specs.Store.{storeSize, jobsMax, levelsMax}
-use Rattle.sheet.specs.Reading.{refusalOf, headAs, SheetRead, refusedRead, headLos, headHis, versionFields, headFields, figuresFrom, headFrom, readingOf}
+use Rattle.sheet.specs.Reading.{SheetRead, refusedRead, figuresFrom, headFrom, readingOf}
 use Rattle.body.proofs.Body.{body-placed}
-use Rattle.sheet.proofs.Head.{head-held, head-field}
+use Rattle.head.specs.Head.{headAs, headLos, headHis, versionFields, headFields}
+use Rattle.head.proofs.Head.{head-held, head-field}
 
 -- What is found in the lines t after an H line of figures vs.
 abbrev pub bodyOf : List ℕ → List ℕ → Found

@@ -1,3 +1,4 @@
+-- `read_body` reads the L lines, the S lines and the jobs' lines in order, each by its contract; the first fault ends it.
 use Rattle.body.proofs.Body.{body-levels, body-changes, body-jobs}
 use borrow.Author.Needs.{needs}
 use Rattle.body.proofs.read_body.Statement.{statement}

@@ -1,3 +1,4 @@
+-- `read_changes` reads what the definition reads, by an invariant of the levels left whose S lines are read (`Changes`).
 use Prim.Native.Nat.{_-_}
 use native.Mathlib.Omega.{arith}
 use Rattle.body.proofs.Body.{Changes, changes-none, changes-all, changes-stop, changes-on}

@@ -1,3 +1,4 @@
+-- `read_jobs` reads what the definition reads, by an invariant of the jobs whose lines are read (`Jobs`).
 use Prim.Native.Nat.{_-_}
 use native.Mathlib.Omega.{arith}
 use Rattle.body.proofs.Body.{Jobs, jobs-none, jobs-all, jobs-name, jobs-stop, jobs-on}

@@ -1,3 +1,4 @@
+-- `read_name` reads a J line in one pass where `take_name` takes it, and else by `scan_line` and `check_name`; both are `NameRead`.
 use mathlib.Core.Path.{sym}
 use native.Mathlib.Omega.{arith}
 use Rattle.text.proofs.Scanned.{line-tabs, line-from}

@@ -1,9 +1,9 @@
 -- `pass_name` ends where the definition says: `Letters` holds of what was passed, and each way out is one of its laws.
 use mathlib.Core.Logic.{inl, inr, ⊎-elim}
-use Prim.Native.Nat.{_+_, _-_, _≤_}
+use Prim.Native.Nat.{_-_}
 use native.Mathlib.Omega.{arith}
-use lib.ListN.{length}
 use borrow.Author.Needs.{needs}
+use Rattle.name_lines.specs.Name.{nameMax}
 use Rattle.fast_name_lines.proofs.Name.{Passed, letters-none, letters-more, letters-other, letters-name}
 use Rattle.fast_name_lines.proofs.pass_name.Statement.{statement}
 use Rattle.fast_name_lines.proofs.pass_name.Tie as tie
@@ -12,7 +12,7 @@ abbrev Inv-loop : tie.InvT-loop
 Inv-loop s at k₀ k = Passed s at k
 
 abbrev μ-loop : tie.MeasureT-loop
-μ-loop s at k₀ k = 16 - k
+μ-loop s at k₀ k = nameMax - k
 
 loop-holds : tie.Need-loop-holds Inv-loop μ-loop
 loop-holds c = record { few = search needs; room = search needs; letters = letters-none _ _ }

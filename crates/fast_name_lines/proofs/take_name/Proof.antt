@@ -4,6 +4,7 @@ use native.Mathlib.Omega.{arith}
 use borrow.Author.Needs.{needs}
 use borrow.Author.Tests.{not-true, not-false}
 use Rattle.fast_fields.proofs.Line.{Starts, starts-is}
+use Rattle.fast_name_lines.specs.Name.{nameLineMax}
 use Rattle.fast_name_lines.proofs.Name.{name-unstarted, name-line-taken, name-line-left}
 use Rattle.fast_name_lines.proofs.take_name.Statement.{statement}
 use Rattle.fast_name_lines.proofs.take_name.Tie as tie
@@ -14,7 +15,7 @@ starts-with-requires c κs = search needs
 returns : tie.Need-returns
 returns c = name-unstarted _ _ (sym (c .before .starts-with .ensures) ∙ not-true _ (c .if1 .taken))
 
-started : (c : tie.Else1) → Starts (c .before .before .before .args .s .now) (c .before .before .before .args .from) 74 19
+started : (c : tie.Else1) → Starts (c .before .before .before .args .s .now) (c .before .before .before .args .from) 74 nameLineMax
 started c = starts-is _ _ _ _ (sym (c .before .starts-with .ensures) ∙ not-false _ (c .if1 .left))
 
 add-pass-name : tie.Need-add-pass-name

@@ -1,4 +1,4 @@
--- The name of a job: none of a job that the sheet does not have, else the second field of its J line.
+-- The name of a job: none of a job that the sheet does not have, else the name on its J line.
 use mathlib.Core.Path.{ap, sym, _∙_}
 use Prim.Native.Nat.{ℕ}
 use Rattle.names.specs.Name.{nameAt}

@@ -1,5 +1,5 @@
 -- The number of a J line: its products and sums are small, by `lines-small`.
-use mathlib.Core.Path.{_≡_, ap}
+use mathlib.Core.Path.{ap}
 use Prim.Native.Nat.{ℕ, _+_, _*_, _≤_}
 use native.Mathlib.Omega.{arith}
 use Rattle.store.specs.Store.{jobsMax, levelsMax}
@@ -10,7 +10,7 @@ use Rattle.names.proofs.lines_before.Statement.{statement}
 use Rattle.names.proofs.lines_before.Tie as tie
 
 small : (c : tie.Start) → let a = c .args in (a .l * a .l ≤ levelsMax * levelsMax) × (a .i * jobLines (a .l) ≤ jobsMax * jobLines levelsMax)
-small c = lines-small (c .args .l) (c .args .i) (c .pre .0) (c .pre .1)
+small c = lines-small (c .args .l) (c .args .i) (c .pre .levels) (c .pre .jobs)
 
 -- The lines of the jobs before.
 jobs-before : (c : tie.After-job-lines) → let a = c .before .args in a .i * c .job-lines .result ≤ jobsMax * jobLines levelsMax
@@ -23,7 +23,7 @@ mul-result : tie.Need-mul-result
 mul-result c = omega (arith, small c .0)
 
 add-result-2 : tie.Need-add-result-2
-add-result-2 c = omega (arith, small c .0, c .pre .0)
+add-result-2 c = omega (arith, small c .0, c .pre .levels)
 
 job-lines-requires : tie.Need-job-lines-requires
 job-lines-requires c κs = search needs
@@ -32,7 +32,7 @@ mul-result-2 : tie.Need-mul-result-2
 mul-result-2 c = omega (arith, jobs-before c)
 
 add-result-3 : tie.Need-add-result-3
-add-result-3 c = omega (arith, jobs-before c, small (c .before) .0, c .before .pre .0)
+add-result-3 c = omega (arith, jobs-before c, small (c .before) .0, c .before .pre .levels)
 
 returns : tie.Need-returns
 returns c = let l = c .before .args .l in ap (λ (n : ℕ). 2 + l + l * l + c .before .args .i * n) (c .job-lines .ensures)

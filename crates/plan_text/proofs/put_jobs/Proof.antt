@@ -45,7 +45,7 @@ start-of-requires : tie.Need-start-of-requires Inv-loop μ-loop
 start-of-requires c κs = search needs
 
 lines-before-requires : tie.Need-lines-before-requires Inv-loop μ-loop
-lines-before-requires c κs = (levels-most (c .before .before .before .before .before .before .before), omega arith)
+lines-before-requires c κs = record { levels = levels-most (c .before .before .before .before .before .before .before); jobs = omega arith }
 
 skip-lines-requires : tie.Need-skip-lines-requires Inv-loop μ-loop
 skip-lines-requires c κs = search needs
@@ -53,7 +53,7 @@ skip-lines-requires c κs = search needs
 loop-holds : tie.Need-loop-holds Inv-loop μ-loop
 loop-holds c =
     let a = c .before .before .before .before .before .before .before .before .before in
-    writing-start (a .pre .handed) _ _ _ _ _ (c .before .before .start-of .ensures (a .args .store .now)) (c .before .lines-before .ensures) (c .skip-lines .ensures .0) (c .skip-lines .ensures .1)
+    writing-start (a .pre .handed) _ _ _ _ _ (c .before .before .start-of .ensures (a .args .store .now)) (c .before .lines-before .ensures) (c .skip-lines .ensures .within) (c .skip-lines .ensures .rest)
 
 cast-if1 : tie.Need-cast-if1 Inv-loop μ-loop
 cast-if1 c = search needs
@@ -92,7 +92,7 @@ loop-less c = omega (arith, c .before .before .before .before .before .before .b
 loop-again : tie.Need-loop-again Inv-loop μ-loop
 loop-again c =
     let v = c .before .before .before .before .put-job .ensures in
-    writing-next (c .before .before .before .before .before .before .before .before .before .before .before .before .before .before .before .before .before .before .before .before .before .pre .handed) (c .before .before .before .before .before .before .before .before .before .before .before .loop .inv) (c .before .before .before .before .before .before .before .before .before .if1 .taken) _ (stepped (c .before .before .before .before .before .before)) _ _ _ _ (v .0) (v .1) (c .before .job-lines .ensures) (c .skip-lines2 .ensures .0) (c .skip-lines2 .ensures .1)
+    writing-next (c .before .before .before .before .before .before .before .before .before .before .before .before .before .before .before .before .before .before .before .before .before .pre .handed) (c .before .before .before .before .before .before .before .before .before .before .before .loop .inv) (c .before .before .before .before .before .before .before .before .before .if1 .taken) _ (stepped (c .before .before .before .before .before .before)) _ _ _ _ (v .0) (v .1) (c .before .job-lines .ensures) (c .skip-lines2 .ensures .within) (c .skip-lines2 .ensures .rest)
 
 same-length : tie.Need-same-length Inv-loop μ-loop
 same-length c = c .before .before .loop .inv .long

@@ -1,3 +1,4 @@
+-- `code_of` gives the numbers that the definitions give, refusal by refusal.
 use Rattle.refusal.proofs.Apart.{code-same}
 use borrow.Author.Needs.{needs}
 use Rattle.refusal.proofs.code_of.Statement.{statement}

@@ -1,13 +1,9 @@
--- The lines after the H line, by the laws of `proofs/Head.antt`: a fault, bytes behind them, or neither.
+-- The lines after the H line, by the laws of `proofs/Sheet.antt`: a fault, bytes behind them, or neither.
 use mathlib.Core.Path.{_≡_, refl, ap, _∙_}
-use mathlib.Core.List.{List}
-use Prim.Native.Nat.{ℕ}
 use native.Mathlib.Omega.{arith}
-use lib.ListN.{length, getD, drop, length-drop}
-use Rattle.lines.specs.Lines.{Found}
-use Rattle.body.specs.Body.{bodyLine, bodyFrom}
-use Rattle.sheet.specs.Reading.{clear, refusedRead}
-use Rattle.sheet.proofs.Head.{refused-clear, figures-fault, figures-trailing, figures-read}
+use lib.ListN.{length, drop, length-drop}
+use Rattle.sheet.specs.Reading.{refusedRead}
+use Rattle.sheet.proofs.Sheet.{refused-clear, figures-fault, figures-trailing, figures-read}
 use borrow.Author.Needs.{needs}
 use Rattle.sheet.proofs.read_figures.Statement.{statement}
 use Rattle.sheet.proofs.read_figures.Tie as tie
@@ -39,17 +35,9 @@ as-refusal-requires c κs = search needs
 refuse-requires : tie.Need-refuse-requires
 refuse-requires c κs = search needs
 
--- The lines are read to a store that was clear.
-cleared : (c : tie.Start) → let a = c .args in
-    let read : List ℕ → Found = λ st. bodyFrom (getD (a .t4) 0 0) (getD (a .t4) 1 0) (getD (a .t4) 7 0) (drop (a .at) (a .s .now)) bodyLine st in
-    read (a .store .now) ≡ read clear
-cleared c =
-    let a = c .args in
-    ap (λ (st : List ℕ). bodyFrom (getD (a .t4) 0 0) (getD (a .t4) 1 0) (getD (a .t4) 7 0) (drop (a .at) (a .s .now)) bodyLine st) (c .pre .0)
-
 returns : tie.Need-returns
 returns c = let a = c .before .before .before .before .before .before .before .args in
-    refused-clear _ _ _ (c .refuse .ensures) refl ∙ ap refusedRead (c .before .as-refusal .ensures) ∙ figures-fault (a .version) (a .t4) (drop (a .at) (a .s .now)) _ (c .before .before .before .before .read-body .ensures .found ∙ cleared (c .before .before .before .before .before .before .before)) (c .before .before .before .match .keys2)
+    refused-clear _ _ _ (c .refuse .ensures) refl ∙ ap refusedRead (c .before .as-refusal .ensures) ∙ figures-fault (a .version) (a .t4) (drop (a .at) (a .s .now)) (c .before .before .before .before .before .before .before .pre .cleared) _ (c .before .before .before .before .read-body .ensures .found) (c .before .before .before .match .keys2)
 
 refuse-requires-2 : tie.Need-refuse-requires-2
 refuse-requires-2 c κs = search needs
@@ -57,8 +45,8 @@ refuse-requires-2 c κs = search needs
 returns-2 : tie.Need-returns-2
 returns-2 c = let a = c .before .before .before .before .before .before .before .before .before .args in
     let b = c .before .before .before .before .before .before .read-body .result in
-    let n : length (drop (b .at) (a .s .now)) ≡ 0 → ⊥ = λ e. c .before .before .if1 .taken (omega (arith, length-drop (b .at) (a .s .now), c .before .before .before .before .before .before .read-body .ensures .within)) in
-    refused-clear _ _ _ (c .refuse2 .ensures) refl ∙ figures-trailing (a .version) (a .t4) (drop (a .at) (a .s .now)) _ (c .before .before .before .before .before .before .read-body .ensures .found ∙ cleared (c .before .before .before .before .before .before .before .before .before)) (c .before .before .before .before .enum-told .given .1) n
+    let n : length (drop (b .at) (a .s .now)) ≡ 0 → ⊥ = λ e. omega (arith, length-drop (b .at) (a .s .now), c .before .before .before .before .before .before .read-body .ensures .within, c .before .before .if1 .taken) in
+    refused-clear _ _ _ (c .refuse2 .ensures) refl ∙ figures-trailing (a .version) (a .t4) (drop (a .at) (a .s .now)) (c .before .before .before .before .before .before .before .before .before .pre .cleared) _ (c .before .before .before .before .before .before .read-body .ensures .found) (c .before .before .before .before .enum-told .given .1) n
 
 head-of-requires : tie.Need-head-of-requires
 head-of-requires c κs = search needs
@@ -67,7 +55,7 @@ returns-3 : tie.Need-returns-3
 returns-3 c = let a = c .before .before .before .before .before .before .before .before .args in
     let b = c .before .before .before .before .before .read-body .result in
     let z : length (drop (b .at) (a .s .now)) ≡ 0 = omega (arith, length-drop (b .at) (a .s .now), c .before .if1 .left) in
-    figures-read (a .version) (a .t4) (drop (a .at) (a .s .now)) _ (c .before .before .before .before .before .read-body .ensures .found ∙ cleared (c .before .before .before .before .before .before .before .before)) (c .before .before .before .enum-told .given .1) z _ (c .head-of .ensures)
+    figures-read (a .version) (a .t4) (drop (a .at) (a .s .now)) (c .before .before .before .before .before .before .before .before .pre .cleared) _ (c .before .before .before .before .before .read-body .ensures .found) (c .before .before .before .enum-told .given .1) z _ (c .head-of .ensures)
 
 pub read-figures-spec : {M : Type 1} → statement M
 read-figures-spec =

@@ -1,7 +1,8 @@
+-- `as_refusal` gives the refusal that the definition gives, fault by fault.
 use borrow.Author.Needs.{needs}
-use Rattle.sheet.proofs.Head.{refusal-sound, refusal-shape, refusal-form, refusal-range}
-use Rattle.sheet.proofs.as_refusal.Statement.{statement}
-use Rattle.sheet.proofs.as_refusal.Tie as tie
+use Rattle.refusal.proofs.Fault.{refusal-sound, refusal-shape, refusal-form, refusal-range}
+use Rattle.refusal.proofs.as_refusal.Statement.{statement}
+use Rattle.refusal.proofs.as_refusal.Tie as tie
 
 enum-told : tie.Need-enum-told
 enum-told c = search needs

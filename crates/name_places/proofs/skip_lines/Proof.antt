@@ -1,12 +1,13 @@
+-- `skip_lines` reaches the line that the definition reaches, by an invariant of the lines passed (`Skipped`).
 use Prim.Native.Nat.{_-_}
 use native.Mathlib.Omega.{arith}
 use lib.ListN.{drop}
 use borrow.Author.Needs.{needs}
 use Rattle.text.specs.Text.{until, count}
 use Rattle.text.specs.Line.{LineAt}
-use Rattle.names.proofs.Name.{line-found, Skipped, skipped-none, skipped-all, skipped-on, skipped-end}
-use Rattle.names.proofs.skip_lines.Statement.{statement}
-use Rattle.names.proofs.skip_lines.Tie as tie
+use Rattle.name_places.proofs.Place.{line-found, Skipped, skipped-none, skipped-all, skipped-on, skipped-end}
+use Rattle.name_places.proofs.skip_lines.Statement.{statement}
+use Rattle.name_places.proofs.skip_lines.Tie as tie
 
 abbrev Inv-loop : tie.InvT-loop
 Inv-loop s from n p₀ k₀ p k = Skipped s from n k p
@@ -27,7 +28,7 @@ line c = line-found (c .find .ensures .0) (c .find .ensures .1)
 returns : tie.Need-returns Inv-loop μ-loop
 returns c =
     let z = line (c .before) in
-    (z .within, skipped-end (c .before .before .before .loop .inv) _ z (search needs) (search needs))
+    record { within = z .within; rest = skipped-end (c .before .before .before .loop .inv) _ z (search needs) (search needs) }
 
 add-p : tie.Need-add-p Inv-loop μ-loop
 add-p c = search needs
@@ -42,7 +43,7 @@ loop-again : tie.Need-loop-again Inv-loop μ-loop
 loop-again c = skipped-on (c .before .before .before .loop .inv) _ (line (c .before)) (search needs) (search needs)
 
 returns-2 : tie.Need-returns-2 Inv-loop μ-loop
-returns-2 c = (c .before .loop .inv .within, skipped-all (c .before .loop .inv) (search needs))
+returns-2 c = record { within = c .before .loop .inv .within; rest = skipped-all (c .before .loop .inv) (search needs) }
 
 pub skip-lines-spec : {M : Type 1} → statement M
 skip-lines-spec =

@@ -1,11 +1,12 @@
+-- `name_on` hands back the bytes of the line behind its first byte 9, by the contract of `find`; none where it has no byte 9.
 use mathlib.Core.Path.{sym, _∙_}
 use native.Mathlib.Omega.{arith}
 use Rattle.text.specs.Text.{part}
 use Rattle.text.proofs.Text.{part-none}
-use Rattle.names.proofs.Name.{second-part}
+use Rattle.name_places.proofs.Place.{name-part}
 use borrow.Author.Needs.{needs}
-use Rattle.names.proofs.second_field.Statement.{statement}
-use Rattle.names.proofs.second_field.Tie as tie
+use Rattle.name_places.proofs.name_on.Statement.{statement}
+use Rattle.name_places.proofs.name_on.Tie as tie
 
 scan-line-requires : tie.Need-scan-line-requires
 scan-line-requires c κs = search needs
@@ -19,7 +20,7 @@ slice-aggregate-result c = search needs
 returns : tie.Need-returns
 returns c =
     let z = c .before .before .before .scan-line .ensures in
-    sym (second-part _ z _ (c .before .before .find .ensures .0) ∙ part-none _ _ _ (omega (arith, c .before .if1 .taken)))
+    sym (name-part _ z _ (c .before .before .find .ensures .0) ∙ part-none _ _ _ (omega (arith, c .before .if1 .taken)))
 
 add-a : tie.Need-add-a
 add-a c = search needs
@@ -35,10 +36,10 @@ part-result-end c = search needs
 
 returns-2 : tie.Need-returns-2
 unfolding part
-returns-2 c = sym (second-part _ (c .before .before .before .scan-line .ensures) _ (c .before .before .find .ensures .0))
+returns-2 c = sym (name-part _ (c .before .before .before .scan-line .ensures) _ (c .before .before .find .ensures .0))
 
-pub second-field-spec : {M : Type 1} → statement M
-second-field-spec =
+pub name-on-spec : {M : Type 1} → statement M
+name-on-spec =
     tie.close
     (tie.spec
     scan-line-requires

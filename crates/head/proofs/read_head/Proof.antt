@@ -1,15 +1,14 @@
-use mathlib.Core.Path.{_≡_, ap, sym, _∙_}
+-- `read_head` reads the numbers that the definition names: m and l, and then the others, the start level's range by `less_one`.
+use mathlib.Core.Path.{_≡_, sym, _∙_}
 use mathlib.Core.Bool.{true}
-use Prim.Native.Nat.{ℕ}
 use borrow.Author.Needs.{needs}
 use borrow.Author.Tests.{not-true, not-false}
 use Rattle.text.specs.Text.{part}
-use Rattle.fields.specs.Fields.{opens, numbersFrom}
+use Rattle.fields.specs.Fields.{opens}
 use Rattle.fields.proofs.Fields.{opens-some}
-use Rattle.sheet.specs.Reading.{headLos, headHis}
-use Rattle.sheet.proofs.Head.{head-shape, head-other, head-rest}
-use Rattle.sheet.proofs.read_head.Statement.{statement}
-use Rattle.sheet.proofs.read_head.Tie as tie
+use Rattle.head.proofs.Head.{head-shape, head-other, head-rest}
+use Rattle.head.proofs.read_head.Statement.{statement}
+use Rattle.head.proofs.read_head.Tie as tie
 
 opens-with-requires : tie.Need-opens-with-requires
 opens-with-requires c κs = search needs
@@ -48,10 +47,8 @@ read-numbers-requires-2 c κs = search needs
 
 returns-3 : tie.Need-returns-3
 returns-3 c =
-    let a = c .before .before .before .before .before .before .before .before .before .args in
-    let r = c .before .before .before .before .before .read-numbers .result in
-    head-rest _ _ _ (search needs) (search needs) (opened (c .before .before .before .before .before .before)) _ (c .before .before .before .before .before .read-numbers .ensures .0) (c .before .before .before .enum-told .given .1) _
-    (c .read-numbers2 .ensures .0 ∙ ap (λ (m : ℕ). numbersFrom headLos (headHis m) 8 2 (part (r .next) (a .to) (a .s .now)) (r .values)) (c .before .less-one .ensures))
+    head-rest _ _ _ (search needs) (search needs) (opened (c .before .before .before .before .before .before)) _ (c .before .before .before .before .before .read-numbers .ensures .0) (c .before .before .before .enum-told .given .1)
+    _ (c .before .less-one .ensures) _ (c .read-numbers2 .ensures .0)
 
 pub read-head-spec : {M : Type 1} → statement M
 read-head-spec =
