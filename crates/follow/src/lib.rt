@@ -46,8 +46,8 @@ fn map_cells(
 )
     ghost { Sheet }
     requires { λ s. ⌜ sheetOf (f .head) (now store) ≡ s ⌝ }
-    requires { λ s. ⌜ Framed s f (now store) (now steady) ⌝ }
     requires { λ s. ⌜ record {
+      framed : Framed s f (now store) (now steady);
       job : i < s .jobs;
       level : j < s .levels;
       room : at + temperatureCells s ≤ length (now table);
@@ -78,8 +78,8 @@ fn expand_level(
 )
     ghost { Sheet }
     requires { λ s. ⌜ sheetOf (f .head) (now store) ≡ s ⌝ }
-    requires { λ s. ⌜ Framed s f (now store) (now steady) ⌝ }
     requires { λ s. ⌜ record {
+      framed : Framed s f (now store) (now steady);
       room : need s ≤ length (now table);
       job : i < s .jobs;
       level : j < s .levels;
@@ -109,8 +109,7 @@ pub fn expand_job(
 )
     ghost { Sheet }
     requires { λ s. ⌜ sheetOf (f .head) (now store) ≡ s ⌝ }
-    requires { λ s. ⌜ Framed s f (now store) (now steady) ⌝ }
-    requires { λ s. ⌜ record { room : need s ≤ length (now table); job : i < s .jobs; next : Holds s (now table) (suc i) } ⌝ }
+    requires { λ s. ⌜ record { framed : Framed s f (now store) (now steady); room : need s ≤ length (now table); job : i < s .jobs; next : Holds s (now table) (suc i) } ⌝ }
     ensures { λ s r. ⌜ Expanded s i (now (table .entry)) (now (table .exit)) ⌝ }
 {
     let levels = f.head.levels;

@@ -19,7 +19,7 @@ use Rattle.run.specs.Run.{stateOf}
 use Rattle.run.specs.declared.Run.{Run}
 use Rattle.run.proofs.Small.{jobMost}
 use Rattle.table.specs.declared.Frame.{Frame}
-use Rattle.table.specs.Table.{Axes, AtCell, placeFor, restBy, placeBy, restIn, Raises, Steps, Holds}
+use Rattle.table.specs.Table.{Axes, AtCell, placeFor, restBy, placeBy, restIn, Raises, Looks, Holds}
 
 -- ---- by the axes that the code has
 
@@ -161,15 +161,23 @@ raises x b u v =
     )
 
 -- A run within the limits that has a job to do is raised to a cell of the table.
-pub looks : {s : Sheet} {f : Frame} → Axes s f → (b : Run) → b .level < s.levels → b .energy ≤ s.energyBudget → b .temperature ≤ s.temperatureLimit →
-    b .done < f .head .jobs → (Steps f b) × (placeBy f b < need s)
+pub looks : {s : Sheet} {f : Frame} {n : ℕ} → Axes s f → (b : Run) → b .level < s.levels → b .energy ≤ s.energyBudget → b .temperature ≤ s.temperatureLimit →
+    need s ≤ n → b .done < f .head .jobs → Looks f b n
 unfolding need placeFor energyCells temperatureCells
-looks {s} {f} x b l u v d =
-    let ok = x .ranges in (
-      record { raises = raises x b u v; energy-cells = omega (arith, x .energy-cells); temperature-cells = omega (arith, x .temperature-cells) },
-      rw (place-by x b)
-          (place-lt s (b .done) (b .level) _ _ l (energy-cell s ok (b .energy) u) (temperature-cell s ok (b .temperature) v) s.jobs (omega (arith, x .jobs))),
-    )
+looks {s} {f} x b l u v h d =
+    let ok = x .ranges in
+    let k : placeBy f b < need s =
+    rw (place-by x b)
+    (place-lt s (b .done) (b .level) _ _ l (energy-cell s ok (b .energy) u) (temperature-cell s ok (b .temperature) v) s.jobs (omega (arith, x .jobs))) in
+    record {
+      steps = record {
+        raises = raises x b u v;
+        energy-cells = omega (arith, x .energy-cells);
+        temperature-cells = omega (arith, x .temperature-cells);
+        allowed = omega (arith, k, x .allowed);
+      };
+      room = omega (arith, k, h);
+    }
 
 module _ (f : Frame) (t : List ℕ) (b : Run) where
   pub rest-word : b .done < f .head .jobs → restIn f t b ≡ getD t (placeBy f b) 0
@@ -232,5 +240,5 @@ module _ {s : Sheet} {f : Frame} (x : Axes s f) {a : State} (c : AtCell s a) {j 
           x .temperature-limit,
         )
 
-    pub way-looks : b .done < f .head .jobs → (Steps f b) × (placeBy f b < need s)
-    way-looks d = looks x b (rw way-level l) (omega (arith, x .energy-budget)) way-cool d
+    pub way-looks : {n : ℕ} → need s ≤ n → b .done < f .head .jobs → Looks f b n
+    way-looks h d = looks x b (rw way-level l) (omega (arith, x .energy-budget)) way-cool h d

@@ -60,17 +60,23 @@ pub record Raises (f : Frame) (b : Run) : Type 0 where
   pub temperature-step : 1 ≤ f .head .«temperature_step»
   pub temperature-step-most : f .head .«temperature_step» ≤ limitMax
 
--- What finding a run's cell may rest on: the run can be raised, and there are cells.
-pub record Steps (f : Frame) (b : Run) : Type 0 where
-  pub raises : Raises f b
-  pub energy-cells : 1 ≤ f .«energy_cells»
-  pub temperature-cells : 1 ≤ f .«temperature_cells»
-
 -- The place of a run's cell, by the axes that the code has.
 unfoldable pub placeBy : Frame → Run → ℕ
 placeBy f b =
     ((b .done * f .head .levels + b .level) * f .«energy_cells» + ceilDiv (b .energy) (f .head .«energy_step»)) * f .«temperature_cells»
     + ceilDiv (b .temperature) (f .head .«temperature_step»)
+
+-- What finding a run's cell may rest on: the run can be raised, there are cells, and the place is one of a table that is allowed.
+pub record Steps (f : Frame) (b : Run) : Type 0 where
+  pub raises : Raises f b
+  pub energy-cells : 1 ≤ f .«energy_cells»
+  pub temperature-cells : 1 ≤ f .«temperature_cells»
+  pub allowed : placeBy f b < wordsMax
+
+-- What reading its word may rest on, in a table of n words.
+pub record Looks (f : Frame) (b : Run) (n : ℕ) : Type 0 where
+  pub steps : Steps f b
+  pub room : placeBy f b < n
 
 -- The place of the cell to which a state is raised.
 unfoldable pub placeFor : Sheet → State → ℕ

@@ -8,7 +8,7 @@ ghost use Rattle.frame.specs.Table.{need};
 ghost use Rattle.store.specs.Figures.{sheetOf};
 ghost use Rattle.run.specs.Run.{stateOf};
 ghost use Rattle.step.specs.Store.{limitMax};
-ghost use Rattle.table.specs.Table.{wordsMax, Framed, AtCell, Steps, placeBy, restIn, restBy, levelBy};
+ghost use Rattle.table.specs.Table.{Framed, AtCell, Steps, Looks, placeBy, restIn, restBy, levelBy};
 use run::Run;
 use store::Head;
 use store::LEVELS_MAX;
@@ -29,7 +29,7 @@ pub struct Frame {
 
 // x / n, rounded up.
 pub fn ceil_div(x: u32, n: u32) -> u32
-    requires { ⌜ (x ≤ limitMax) × (1 ≤ n) × (n ≤ limitMax) ⌝ }
+    requires { ⌜ record { value : x ≤ limitMax; step : 1 ≤ n; step-most : n ≤ limitMax } ⌝ }
     ensures { λ r. ⌜ r ≡ ceilDiv x n ⌝ }
 {
     (x + (n - 1)) / n
@@ -37,7 +37,7 @@ pub fn ceil_div(x: u32, n: u32) -> u32
 
 // The place of the cell to which a run is raised.
 fn place_of(f: Frame, b: Run) -> usize
-    requires { ⌜ (Steps f b) × (placeBy f b < wordsMax) ⌝ }
+    requires { ⌜ Steps f b ⌝ }
     ensures { λ r. ⌜ r ≡ placeBy f b ⌝ }
 {
     let a = ceil_div(b.energy as u32, f.head.energy_step) as usize;
@@ -48,7 +48,7 @@ fn place_of(f: Frame, b: Run) -> usize
 
 // What the table says of the time after a job that ends in `b`.
 pub fn rest_of(f: Frame, table: &[u32], b: Run) -> u64
-    requires { ⌜ (b .done < f .head .jobs → (Steps f b) × (placeBy f b < wordsMax) × (placeBy f b < length (now table))) ⌝ }
+    requires { ⌜ (b .done < f .head .jobs → Looks f b (length (now table))) ⌝ }
     ensures { λ r. ⌜ r ≡ restIn f (now (table .entry)) b ⌝ }
 {
     if b.done < f.head.jobs {
@@ -70,8 +70,7 @@ pub fn way(
 ) -> u64
     ghost { Sheet }
     requires { λ s. ⌜ sheetOf (f .head) (now store) ≡ s ⌝ }
-    requires { λ s. ⌜ Framed s f (now store) (now steady) ⌝ }
-    requires { λ s. ⌜ record { room : need s ≤ length (now table); at : AtCell s (stateOf a); level : j < s .levels } ⌝ }
+    requires { λ s. ⌜ record { framed : Framed s f (now store) (now steady); room : need s ≤ length (now table); at : AtCell s (stateOf a); level : j < s .levels } ⌝ }
     ensures { λ s r. ⌜ r ≡ via s (restBy s (now (table .entry))) (stateOf a) j ⌝ }
 {
     let b = step::next_job(a, store, steady, j);
@@ -95,8 +94,7 @@ pub fn choose(
 ) -> u32
     ghost { Sheet }
     requires { λ s. ⌜ sheetOf (f .head) (now store) ≡ s ⌝ }
-    requires { λ s. ⌜ Framed s f (now store) (now steady) ⌝ }
-    requires { λ s. ⌜ record { room : need s ≤ length (now table); at : AtCell s (stateOf a) } ⌝ }
+    requires { λ s. ⌜ record { framed : Framed s f (now store) (now steady); room : need s ≤ length (now table); at : AtCell s (stateOf a) } ⌝ }
     ensures { λ s r. ⌜ r ≡ levelBy s (now (table .entry)) (stateOf a) ⌝ }
 {
     let l = f.head.levels;

@@ -50,9 +50,9 @@ parts : (c : tie.After-ceil-div2) →
     (job-level c < wordsMax) × (energy-row c < wordsMax) × (energy-row c * start c .args .f .«temperature_cells» + c .ceil-div2 .result < wordsMax)
 parts c =
     let s = start c .pre in
-    let w : energy-row c * start c .args .f .«temperature_cells» + c .ceil-div2 .result < wordsMax = omega (arith, is-place c, s .1) in
-    let o : energy-row c < wordsMax = omega (arith, w, le-mul-of-pos-right (energy-row c) (s .0 .temperature-cells)) in
-    (omega (arith, o, le-mul-of-pos-right (job-level c) (s .0 .energy-cells)), o, w)
+    let w : energy-row c * start c .args .f .«temperature_cells» + c .ceil-div2 .result < wordsMax = omega (arith, is-place c, s .allowed) in
+    let o : energy-row c < wordsMax = omega (arith, w, le-mul-of-pos-right (energy-row c) (s .temperature-cells)) in
+    (omega (arith, o, le-mul-of-pos-right (job-level c) (s .energy-cells)), o, w)
 
 mul-row : tie.Need-mul-row
 mul-row c = omega (arith, parts (c .before .before))
