@@ -29,3 +29,10 @@ pub record Leading (table : List ℕ) (map width n : ℕ) : Type 0 where
   pub most : n ≤ width
   pub within : (k : ℕ) → k < n → getD table (map + k) 0 < width
   pub beyond : (k : ℕ) → n ≤ k → k < width → width ≤ getD table (map + k) 0
+
+-- The rows of the next job stand behind those that are written, and in the table.
+pub record Behind (table : List ℕ) (at rows width next : ℕ) : Type 0 where
+  pub rows-some : 1 ≤ rows
+  pub width-some : 1 ≤ width
+  pub behind : at + rows * width ≤ next
+  pub room : next + rows * width ≤ length table

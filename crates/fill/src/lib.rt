@@ -39,8 +39,8 @@ fn fill_job(
       moves : Room (now shifts) (now reaches) (now times);
       scratch : scratchSize ≤ length (now part);
     } ⌝ }
-    ensures { λ s r. ⌜ FilledFrom s (base s i 0) (now (table .entry)) (now (table .exit)) ⌝ }
     ensures { λ s r. ⌜ record {
+      filled : FilledFrom s (base s i 0) (now (table .entry)) (now (table .exit));
       shifts : Scratch (now (shifts .entry)) (now (shifts .exit));
       reaches : Scratch (now (reaches .entry)) (now (reaches .exit));
       times : Scratch (now (times .entry)) (now (times .exit));

@@ -81,7 +81,7 @@ loop-again c =
       reaches-long = omega (arith, w .kept, l .inv .reaches-long);
       times-long = omega (arith, w .kept, l .inv .times-long);
       part-long = omega (arith, w .kept, l .inv .part-long);
-      filled = filled-trans (base-mono s (l .i - 1) (l .i) (omega arith)) (l .inv .filled) (w .ensures .0);
+      filled = filled-trans (base-mono s (l .i - 1) (l .i) (omega arith)) (l .inv .filled) (w .ensures .filled);
     }
 
 same-length : tie.Need-same-length Inv-loop μ-loop

@@ -75,10 +75,14 @@ returns c =
     let g = a .pre .framed .axes in
     let x = c .before .before .before .before .before .before .before .before .before .before .before .before .before .before .before .before .before .before .before .before .before .before .expand-job .ensures in
     let m = c .before .before .before .before .before .before .before .before .before .before .before .before .before .before .before .before .find-moves in
-    let r = c .before .before .before .before .relax-words .ensures in (
-      filled-by _ (g .ranges) (a .args .i) (a .pre .job) (m .ensures) (g .levels) (cells-by g) (start-is g (a .args .i)) x (a .pre .next) (r .0),
-      record { shifts = record { long = omega (arith, m .kept) }; reaches = record { long = omega (arith, m .kept) }; times = record { long = omega (arith, m .kept) }; part = r .1 },
-    )
+    let r = c .before .before .before .before .relax-words .ensures in
+    record {
+      filled = filled-by _ (g .ranges) (a .args .i) (a .pre .job) (m .ensures) (g .levels) (cells-by g) (start-is g (a .args .i)) x (a .pre .next) (r .words);
+      shifts = record { long = omega (arith, m .kept) };
+      reaches = record { long = omega (arith, m .kept) };
+      times = record { long = omega (arith, m .kept) };
+      part = r .scratch;
+    }
 
 pub fill-job-spec : {M : Type 1} → statement M
 fill-job-spec =

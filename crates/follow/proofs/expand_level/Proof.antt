@@ -83,22 +83,28 @@ gather-rows-requires c κs =
     let a = c .before .before .before .before .before .before .before .before .before in
     let q = a .pre .framed .axes in
     let m = c .before .before .before .before .before .map-cells .ensures in
-    let n = next-room c in (
-      (
-        rows-some q,
-        columns-some q,
-        omega (arith, cells-by q, job-by q, one-level q),
-        omega (arith, n, cells-by q, job-by q, one-level q, a .pre .room, m .long),
-      ),
-      map-rising q (a .args .i) (a .args .j) (a .pre .job) (a .pre .level) m,
-    )
+    record {
+      places =
+          record {
+            rows-some = rows-some q;
+            width-some = columns-some q;
+            behind = omega (arith, cells-by q, job-by q, one-level q);
+            room = omega (arith, next-room c, cells-by q, job-by q, one-level q, a .pre .room, m .long);
+          };
+      rising = map-rising q (a .args .i) (a .args .j) (a .pre .job) (a .pre .level) m;
+    }
 
 finish-rows-requires : tie.Need-finish-rows-requires
 finish-rows-requires c κs =
     let a = c .before .before .before .before .before .before .before .before .before in
     let q = a .pre .framed .axes in
     let m = c .before .before .before .before .before .map-cells .ensures in
-    ((rows-some q, columns-some q, omega (arith, level-room a, cells-by q, a .pre .room, m .long)), map-rising q (a .args .i) (a .args .j) (a .pre .job) (a .pre .level) m)
+    record {
+      rows-some = rows-some q;
+      width-some = columns-some q;
+      room = omega (arith, level-room a, cells-by q, a .pre .room, m .long);
+      rising = map-rising q (a .args .i) (a .args .j) (a .pre .job) (a .pre .level) m;
+    }
 
 same-length : tie.Need-same-length
 same-length c = search needs
