@@ -20,8 +20,9 @@ use Rattle.frame.proofs.Demand2.{demand2}
 use Rattle.run.specs.Run.{stateOf}
 use Rattle.run.specs.declared.Run.{Run}
 use Rattle.table.specs.declared.Frame.{Frame}
-use Rattle.table.specs.Table.{Axes, Looks, restIn, restBy}
-use Rattle.table.proofs.Lookup.{rest-by, rest-least, looks}
+use Rattle.table.specs.Table.{Axes}
+use Rattle.lookup.specs.Lookup.{Looks, restIn, restBy}
+use Rattle.lookup.proofs.Lookup.{rest-by, rest-least, looks}
 use Rattle.table.proofs.Cells.{filled-words}
 use Rattle.walk.specs.Walk.{Starts}
 use Rattle.reply.specs.declared.Reply.{Reply}

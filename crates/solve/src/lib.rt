@@ -31,7 +31,7 @@ fn find_plan(
     ensures { λ s b. ⌜ Finds s (s .jobs - start .done) (stateOf start) (now (table .entry)) (now (table .exit)) (now (part .entry)) (now (part .exit)) b ⌝ }
 {
     fill::fill(f, store, steady, table);
-    let least = table::rest_of(f, table, start);
+    let least = lookup::rest_of(f, table, start);
     if (f.head.deadline as u64) < start.time + least {
         return false;
     }

@@ -60,40 +60,6 @@ pub record Raises (f : Frame) (b : Run) : Type 0 where
   pub temperature-step : 1 ≤ f .head .«temperature_step»
   pub temperature-step-most : f .head .«temperature_step» ≤ limitMax
 
--- The place of a run's cell, by the axes that the code has.
-unfoldable pub placeBy : Frame → Run → ℕ
-placeBy f b =
-    ((b .done * f .head .levels + b .level) * f .«energy_cells» + ceilDiv (b .energy) (f .head .«energy_step»)) * f .«temperature_cells»
-    + ceilDiv (b .temperature) (f .head .«temperature_step»)
-
--- What finding a run's cell may rest on: the run can be raised, there are cells, and the place is one of a table that is allowed.
-pub record Steps (f : Frame) (b : Run) : Type 0 where
-  pub raises : Raises f b
-  pub energy-cells : 1 ≤ f .«energy_cells»
-  pub temperature-cells : 1 ≤ f .«temperature_cells»
-  pub allowed : placeBy f b < wordsMax
-
--- What reading its word may rest on, in a table of n words.
-pub record Looks (f : Frame) (b : Run) (n : ℕ) : Type 0 where
-  pub steps : Steps f b
-  pub room : placeBy f b < n
-
--- The place of the cell to which a state is raised.
-unfoldable pub placeFor : Sheet → State → ℕ
-placeFor s b = place s b.done b.level (ceilDiv b.energy s.energyStep) (ceilDiv b.temperature s.temperatureStep)
-
--- What a table says of the time after a job that ends in b: the word of the cell to which b is raised, and 0 after the last.
-unfoldable pub restBy : Sheet → List ℕ → State → ℕ
-restBy s table b = cond (ltb b.done s.jobs) (getD table (placeFor s b) 0) 0
-
--- What a table says of the time after b, by the axes that the code has.
-unfoldable pub restIn : Frame → List ℕ → Run → ℕ
-restIn f table b = cond (ltb (b .done) (f .head .jobs)) (getD table (placeBy f b) 0) 0
-
--- The first level of the next job that takes the least time from a cell on, by what a table says.
-abbrev pub levelBy : Sheet → List ℕ → State → ℕ
-levelBy s table a = firstWithin s.levels (via s (restBy s table) a) (leastOf s.levels (via s (restBy s table) a))
-
 -- The words of one number of jobs done and one level before.
 unfoldable pub cells : Sheet → ℕ
 cells s = energyCells s * temperatureCells s

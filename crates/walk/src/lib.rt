@@ -51,7 +51,7 @@ pub fn walk(
     let mut a = raise_run(f, start);
     let mut i: usize = 0;
     while i < n {
-        let j = table::choose(f, store, steady, table, a);
+        let j = choice::choose(f, store, steady, table, a);
         part[i] = j as u8;
         a = raise_run(f, step::next_job(a, store, steady, j));
         i += 1;

@@ -8,7 +8,7 @@ use Rattle.frame.specs.Sheet.{Sheet}
 use Rattle.store.specs.Store.{changesMax}
 use Rattle.store.specs.Figures.{sheetOf}
 use Rattle.table.specs.Table.{base}
-use Rattle.follow.proofs.Places.{base-mono, base-need, base-zero}
+use Rattle.table.proofs.Places.{base-mono, base-need, base-zero}
 use Rattle.fill.specs.Layer.{scratchSize, FilledFrom}
 use Rattle.fill.proofs.Filling.{filled-none, filled-self, filled-trans, filled-all}
 use Rattle.fill.proofs.fill.Statement.{statement}

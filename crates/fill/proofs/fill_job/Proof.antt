@@ -5,8 +5,7 @@ use denote.Ref.{now}
 use Rattle.store.specs.Figures.{sheetOf}
 use Rattle.fill.proofs.Filling.{filled-holds}
 use Rattle.table.proofs.Cells.{cells-small}
-use Rattle.follow.proofs.Places.{base-start, base-mono}
-use Rattle.follow.proofs.Laying.{cells-by, start-is, row-small}
+use Rattle.table.proofs.Places.{base-start, base-mono, cells-by, start-is, row-small}
 use Rattle.fill.proofs.Jobs.{moving-by, room-by, lows-by, filled-by}
 use borrow.Author.Needs.{needs}
 use Rattle.fill.proofs.fill_job.Statement.{statement}

@@ -5,7 +5,7 @@ use denote.Ref.{now}
 use Rattle.store.specs.Figures.{sheetOf}
 use Rattle.table.specs.Table.{base}
 use Rattle.follow.specs.Follow.{Kept, Ahead}
-use Rattle.follow.proofs.Places.{base-level, base-within}
+use Rattle.table.proofs.Places.{base-level, base-within}
 use Rattle.follow.proofs.Keeping.{kept-none, kept-both, kept-wide, holds-kept, ahead-none, ahead-more, ahead-all}
 use Rattle.follow.proofs.expand_job.Statement.{statement}
 use Rattle.follow.proofs.expand_job.Tie as tie

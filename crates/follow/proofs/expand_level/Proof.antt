@@ -6,7 +6,8 @@ use borrow.Author.Needs.{needs}
 use Rattle.frame.specs.Table.{need}
 use Rattle.store.specs.Figures.{sheetOf}
 use Rattle.table.specs.Table.{wordsMax, cells}
-use Rattle.follow.proofs.Laying.{rows-some, columns-some, cells-by, job-by, one-level, last-row, at-is, at-need, at-small, row-small, next-is, next-need, job-small, map-rising, gathered-laid, finished-laid}
+use Rattle.table.proofs.Places.{rows-some, columns-some, cells-by, job-by, one-level, last-row, at-is, at-need, at-small, row-small, next-is, next-need, job-small}
+use Rattle.follow.proofs.Laying.{map-rising, gathered-laid, finished-laid}
 use Rattle.follow.proofs.expand_level.Statement.{statement}
 use Rattle.follow.proofs.expand_level.Tie as tie
 

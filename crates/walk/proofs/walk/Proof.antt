@@ -11,7 +11,8 @@ use Rattle.frame.proofs.Walk.{Goes}
 use Rattle.store.specs.Figures.{sheetOf}
 use Rattle.run.specs.Run.{stateOf}
 use Rattle.step.proofs.Store.{rests}
-use Rattle.table.proofs.Lookup.{raises, next-cell, next-peak}
+use Rattle.table.proofs.Cells.{raises}
+use Rattle.table.proofs.Ways.{next-cell, next-peak}
 use Rattle.walk.proofs.Steps.{cellOf, raised-cell, Going, starts-at, starts-plan, starts-way, going-start, going-level, going-next, going-end}
 use Rattle.walk.proofs.walk.Statement.{statement}
 use Rattle.walk.proofs.walk.Tie as tie

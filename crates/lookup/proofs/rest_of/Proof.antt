@@ -4,9 +4,9 @@ use native.Mathlib.Omega.{arith}
 use mathlib.Core.Path.{sym, ap, _∙_}
 use Prim.Native.Nat.{ℕ}
 use lib.ListN.{getD}
-use Rattle.table.proofs.Lookup.{rest-word, rest-none}
-use Rattle.table.proofs.rest_of.Statement.{statement}
-use Rattle.table.proofs.rest_of.Tie as tie
+use Rattle.lookup.proofs.Lookup.{rest-word, rest-none}
+use Rattle.lookup.proofs.rest_of.Statement.{statement}
+use Rattle.lookup.proofs.rest_of.Tie as tie
 
 place-of-requires : tie.Need-place-of-requires
 place-of-requires c κs = c .before .before .before .before .pre (c .if1 .taken) .steps

@@ -11,11 +11,10 @@ use Rattle.table.proofs.Cells.{cell-temperature, width-small}
 use Rattle.spans.specs.Spans.{Spans}
 use Rattle.spans.proofs.Stepping.{spans-none, spans-more, spans-all}
 use Rattle.store.specs.Figures.{sheetOf}
-use Rattle.follow.specs.Follow.{warmed, nextCell}
-use Rattle.follow.proofs.Warming.{cell-is}
-use Rattle.follow.proofs.Laying.{columns-some}
-use Rattle.follow.proofs.map_cells.Statement.{statement}
-use Rattle.follow.proofs.map_cells.Tie as tie
+use Rattle.next_cells.specs.Next.{warmed, nextCell}
+use Rattle.next_cells.proofs.Warming.{cell-is}
+use Rattle.next_cells.proofs.map_cells.Statement.{statement}
+use Rattle.next_cells.proofs.map_cells.Tie as tie
 
 abbrev Inv-loop : tie.InvT-loop
 Inv-loop f store steady table₀ i j at step multiplier width b₀ table b = record { most : b ≤ f .«temperature_cells»; written : Spans table₀ table at b (nextCell (sheetOf (f .head) store) i j) }
@@ -36,7 +35,7 @@ add-multiplier : tie.Need-add-multiplier Inv-loop μ-loop
 add-multiplier c = omega (arith, div-le-self 4294967295 (c .before .before .before .args .f .head .«temperature_step»))
 
 loop-holds : tie.Need-loop-holds Inv-loop μ-loop
-loop-holds c = record { most = omega (arith, columns-some (c .before .before .before .pre .framed .axes)); written = spans-none _ _ _ }
+loop-holds c = record { most = omega arith; written = spans-none _ _ _ }
 
 -- The temperature of the turn's cell is small.
 warm-small : (c : tie.In-loop Inv-loop μ-loop) → c .before .loop .b * c .before .before .before .before .before .args .f .head .«temperature_step» ≤ 39998

@@ -8,11 +8,12 @@ use Rattle.frame.specs.Run.{State, step}
 use Rattle.run.specs.Run.{stateOf}
 use Rattle.step.proofs.Store.{rests}
 use Rattle.store.specs.Figures.{sheetOf}
-use Rattle.table.specs.Table.{restBy}
-use Rattle.table.proofs.Lookup.{rest-small, way-short, way-energy, way-temperature, way-within, way-looks}
+use Rattle.lookup.specs.Lookup.{restBy}
+use Rattle.lookup.proofs.Lookup.{rest-small}
+use Rattle.choice.proofs.Choice.{way-short, way-energy, way-temperature, way-within, way-looks}
 use borrow.Author.Needs.{needs}
-use Rattle.table.proofs.way.Statement.{statement}
-use Rattle.table.proofs.way.Tie as tie
+use Rattle.choice.proofs.way.Statement.{statement}
+use Rattle.choice.proofs.way.Tie as tie
 
 next-job-requires : tie.Need-next-job-requires
 next-job-requires c κs =

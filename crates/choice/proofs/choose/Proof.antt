@@ -8,10 +8,11 @@ use denote.Ref.{now}
 use Rattle.frame.specs.Plan.{leastOf, firstWithin, via}
 use Rattle.run.specs.Run.{stateOf}
 use Rattle.store.specs.Figures.{sheetOf}
-use Rattle.table.specs.Table.{restBy}
-use Rattle.table.proofs.Lookup.{least-none, least-more, first-none, first-less, first-kept}
-use Rattle.table.proofs.choose.Statement.{statement}
-use Rattle.table.proofs.choose.Tie as tie
+use Rattle.lookup.specs.Lookup.{restBy}
+use Rattle.table.proofs.Ways.{least-none, least-more}
+use Rattle.choice.proofs.Choice.{first-none, first-less, first-kept}
+use Rattle.choice.proofs.choose.Statement.{statement}
+use Rattle.choice.proofs.choose.Tie as tie
 
 abbrev Inv-loop : tie.InvT-loop
 Inv-loop f store steady table a l least₀ first₀ j₀ least first j = let w = via (sheetOf (f .head) store) (restBy (sheetOf (f .head) store) table) (stateOf a) in

@@ -3,10 +3,11 @@ use mathlib.Core.Path.{_≡_}
 use Prim.Native.Nat.{ℕ, _+_, _*_, _<_}
 use native.Mathlib.Nat.{le-mul-of-pos-right}
 use native.Mathlib.Omega.{arith}
-use Rattle.table.specs.Table.{wordsMax, placeBy}
+use Rattle.table.specs.Table.{wordsMax}
+use Rattle.lookup.specs.Lookup.{placeBy}
 use borrow.Author.Needs.{needs}
-use Rattle.table.proofs.place_of.Statement.{statement}
-use Rattle.table.proofs.place_of.Tie as tie
+use Rattle.lookup.proofs.place_of.Statement.{statement}
+use Rattle.lookup.proofs.place_of.Tie as tie
 
 cast-ceil-div : tie.Need-cast-ceil-div
 cast-ceil-div c = search needs
