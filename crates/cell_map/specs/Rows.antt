@@ -1,7 +1,6 @@
 -- What follows a job, row by row of an energy cell each: every cell of a row takes the word of the next job's row that the map names.
 -- The map stands in the last row until that row is written itself.
 -- Assumes nothing.
-use mathlib.Core.Path.{_≡_}
 use mathlib.Core.Bool.{cond}
 use mathlib.Core.List.{List}
 use Prim.Native.Nat.{ℕ, _+_, _*_, _/_, _%_, _≤_, _<_}

@@ -21,7 +21,7 @@ use Rattle.run.specs.Run.{stateOf}
 use Rattle.run.specs.declared.Run.{Run}
 use Rattle.table.specs.declared.Frame.{Frame}
 use Rattle.table.specs.Table.{Axes}
-use Rattle.lookup.specs.Lookup.{Looks, restIn, restBy}
+use Rattle.lookup.specs.Lookup.{Looks, restIn}
 use Rattle.lookup.proofs.Lookup.{rest-by, rest-least, looks}
 use Rattle.table.proofs.Cells.{filled-words}
 use Rattle.walk.specs.Walk.{Starts}

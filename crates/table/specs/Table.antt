@@ -1,16 +1,12 @@
 -- What the code that fills and reads the table speaks of (document 01, 'The rounded run and the table'): the frame that is handed
--- over and its sheet, a cell, and what a table says of the time that is left.
+-- over and its sheet, its axes, a cell and where its words stand.
 -- Assumes nothing.
 use mathlib.Core.Path.{_≡_}
-use mathlib.Core.Bool.{cond}
 use mathlib.Core.List.{List}
 use Prim.Native.Nat.{ℕ, _+_, _*_, _≤_, _<_}
-use lib.Dec.{ltb}
 use lib.ListN.{getD}
-use Rattle.thermal.specs.Rounding.{ceilDiv}
 use Rattle.frame.specs.Sheet.{Sheet, Ranges}
 use Rattle.frame.specs.Run.{State, fresh, raised}
-use Rattle.frame.specs.Plan.{leastOf, firstWithin, via}
 use Rattle.frame.specs.Table.{energyCells, temperatureCells, need, place, word}
 use Rattle.run.specs.declared.Run.{Run}
 use Rattle.step.specs.Store.{limitMax, Stored}

@@ -61,7 +61,7 @@ map-cells-requires : tie.Need-map-cells-requires
 map-cells-requires c κs =
     let a = c .before .before .before in
     let q = a .pre .framed .axes in
-    record { framed = a .pre .framed; job = a .pre .job; level = a .pre .level; room = omega (arith, last-row q, level-room a, q .temperature-cells, a .pre .room); allowed = omega (arith, last-row q, level-room a) }
+    record { framed = a .pre .framed; job = omega (arith, a .pre .job); level = a .pre .level; room = omega (arith, last-row q, level-room a, q .temperature-cells, a .pre .room); allowed = omega (arith, last-row q, level-room a) }
 
 add-if1 : tie.Need-add-if1
 add-if1 c = search needs

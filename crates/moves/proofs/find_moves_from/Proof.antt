@@ -37,7 +37,7 @@ small : (c : tie.In-loop Inv-loop μ-loop) → c .before .before .before .before
 small c = let a = c .before .before .before .before .before in number-small (a .pre .framed .axes) (a .args .i) (a .args .p) (c .before .loop .j) (a .pre .left) (entered c)
 
 move-of-requires : tie.Need-move-of-requires Inv-loop μ-loop
-move-of-requires c κs = let a = c .before .before .before .before .before .pre in record { framed = a .framed; job = a .job; left = a .left; entered = entered c }
+move-of-requires c κs = let a = c .before .before .before .before .before .pre in record { framed = a .framed; job = a .job; left = omega (arith, a .left, entered c); entered = omega (arith, a .left, entered c) }
 
 mul-u : tie.Need-mul-u Inv-loop μ-loop
 mul-u c = omega (arith, small (c .before))

@@ -1,9 +1,8 @@
 -- Span by span: the ways that are open to it make its words, and they are what the definition says of all moves.
-use mathlib.Core.Path.{_≡_, refl, sym, ap, _∙_}
+use mathlib.Core.Path.{_≡_, refl, sym, _∙_}
 use Prim.Native.Nat.{ℕ, _+_, _*_, _-_, _≤_, _<_}
-use native.Mathlib.Nat.{le-antisymm}
 use native.Mathlib.Omega.{arith}
-use lib.ListN.{getD, length}
+use lib.ListN.{length}
 use Rattle.store.specs.Store.{levelsMax}
 use Rattle.word.specs.Word.{settled}
 use Rattle.spans.specs.Spans.{Spans}
@@ -12,7 +11,6 @@ use Rattle.open_ways.specs.Moves.{relaxedAt}
 use Rattle.open_ways.proofs.Moves.{level-end}
 use Rattle.one_level.specs.Level.{partSize}
 use Rattle.one_level.proofs.Spanning.{lows-later, span-more, open-leads}
-use borrow.Author.Needs.{needs}
 use Rattle.one_level.proofs.relax_level.Statement.{statement}
 use Rattle.one_level.proofs.relax_level.Tie as tie
 

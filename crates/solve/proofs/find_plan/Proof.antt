@@ -2,7 +2,6 @@
 use mathlib.Core.Path.{_≡_, refl}
 use Prim.Native.Nat.{_-_}
 use native.Mathlib.Omega.{arith}
-use lib.ListN.{length}
 use denote.Ref.{now}
 use Rattle.frame.specs.Sheet.{Sheet}
 use Rattle.frame.specs.Plan.{least}
