@@ -1,7 +1,6 @@
 -- What follows a job, row by row of an energy cell each: every cell of a row takes the word of the next job's row that the map names.
 -- The map stands in the last row until that row is written itself.
 -- Assumes nothing.
-use mathlib.Core.Path.{_≡_}
 use mathlib.Core.Bool.{cond}
 use mathlib.Core.List.{List}
 use Prim.Native.Nat.{ℕ, _+_, _*_, _/_, _%_, _≤_, _<_}
@@ -29,3 +28,10 @@ pub record Leading (table : List ℕ) (map width n : ℕ) : Type 0 where
   pub most : n ≤ width
   pub within : (k : ℕ) → k < n → getD table (map + k) 0 < width
   pub beyond : (k : ℕ) → n ≤ k → k < width → width ≤ getD table (map + k) 0
+
+-- The rows of the next job stand behind those that are written, and in the table.
+pub record Behind (table : List ℕ) (at rows width next : ℕ) : Type 0 where
+  pub rows-some : 1 ≤ rows
+  pub width-some : 1 ≤ width
+  pub behind : at + rows * width ≤ next
+  pub room : next + rows * width ≤ length table

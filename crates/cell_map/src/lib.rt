@@ -5,7 +5,7 @@ use word::wide;
 
 // How many cells, from the first, the map leads to a cell of a row.
 pub fn count_leading(table: &[u32], map: usize, width: usize) -> usize
-    requires { ⌜ (map + width ≤ length (now table)) × (Rising (now table) map width) ⌝ }
+    requires { ⌜ record { room : map + width ≤ length (now table); rising : Rising (now table) map width } ⌝ }
     ensures { λ r. ⌜ Leading (now (table .entry)) map width r ⌝ }
 {
     let mut b: usize = 0;

@@ -4,7 +4,7 @@ ghost use Prim.Native.Nat.{ℕ, _+_, _*_, _-_, _≤_};
 ghost use lib.ListN.{length, getD};
 ghost use Rattle.word.specs.Word.{near};
 ghost use Rattle.spans.specs.Spans.{Spans};
-ghost use Rattle.cell_map.specs.Rows.{gathered, finished, Rising, Leading};
+ghost use Rattle.cell_map.specs.Rows.{gathered, finished, Rising, Leading, Behind};
 use cell_map::count_leading;
 use columns::gather_short;
 use one_row::gather;
@@ -24,8 +24,13 @@ fn lead_row(
     n: usize,
     last: bool,
 )
-    requires { ⌜ (at ≤ map) × (map + width ≤ length (now table)) × (row + width ≤ length (now table)) × (Leading (now table) map width n) ⌝ }
-    requires { ⌜ (last ≡ false → map + width ≤ row) ⌝ }
+    requires { ⌜ record {
+      map-behind : at ≤ map;
+      map-room : map + width ≤ length (now table);
+      row-room : row + width ≤ length (now table);
+      leading : Leading (now table) map width n;
+      row-behind : last ≡ false → map + width ≤ row;
+    } ⌝ }
     ensures { λ r. ⌜ Spans (now (table .entry)) (now (table .exit)) at n (λ (k : ℕ). cond last 0 (near (getD (now (table .entry)) (row + getD (now (table .entry)) (map + k) 0) 0))) ⌝ }
 {
     if last {
@@ -37,9 +42,14 @@ fn lead_row(
 
 // Writes all rows, the one of the map last: first the cells that lead to a cell, and then `far`.
 fn write_rows(table: &mut [u32], at: usize, rows: usize, width: usize, next: usize, last: bool)
-    requires { ⌜ (1 ≤ rows) × (1 ≤ width) × (at + rows * width ≤ length (now table)) × (next + rows * width ≤ length (now table)) ⌝ }
-    requires { ⌜ Rising (now table) (at + (rows - 1) * width) width ⌝ }
-    requires { ⌜ (last ≡ false → at + rows * width ≤ next) ⌝ }
+    requires { ⌜ record {
+      rows-some : 1 ≤ rows;
+      width-some : 1 ≤ width;
+      room : at + rows * width ≤ length (now table);
+      next-room : next + rows * width ≤ length (now table);
+      rising : Rising (now table) (at + (rows - 1) * width) width;
+      next-behind : last ≡ false → at + rows * width ≤ next;
+    } ⌝ }
     ensures { λ r. ⌜ Spans (now (table .entry)) (now (table .exit)) at (rows * width) (λ (y : ℕ). cond last (finished (now (table .entry)) (at + (rows - 1) * width) width y) (gathered (now (table .entry)) (at + (rows - 1) * width) next width y)) ⌝ }
 {
     let map = at + (rows - 1) * width;
@@ -55,8 +65,7 @@ fn write_rows(table: &mut [u32], at: usize, rows: usize, width: usize, next: usi
 
 // Writes what follows a job that is not the last, by the map in the last row.
 pub fn gather_rows(table: &mut [u32], at: usize, rows: usize, width: usize, next: usize)
-    requires { ⌜ (1 ≤ rows) × (1 ≤ width) × (at + rows * width ≤ next) × (next + rows * width ≤ length (now table)) ⌝ }
-    requires { ⌜ Rising (now table) (at + (rows - 1) * width) width ⌝ }
+    requires { ⌜ record { places : Behind (now table) at rows width next; rising : Rising (now table) (at + (rows - 1) * width) width } ⌝ }
     ensures { λ r. ⌜ Spans (now (table .entry)) (now (table .exit)) at (rows * width) (gathered (now (table .entry)) (at + (rows - 1) * width) next width) ⌝ }
 {
     if width <= SHORT_ROW {
@@ -68,8 +77,12 @@ pub fn gather_rows(table: &mut [u32], at: usize, rows: usize, width: usize, next
 
 // The same for the last job, which nothing follows.
 pub fn finish_rows(table: &mut [u32], at: usize, rows: usize, width: usize)
-    requires { ⌜ (1 ≤ rows) × (1 ≤ width) × (at + rows * width ≤ length (now table)) ⌝ }
-    requires { ⌜ Rising (now table) (at + (rows - 1) * width) width ⌝ }
+    requires { ⌜ record {
+      rows-some : 1 ≤ rows;
+      width-some : 1 ≤ width;
+      room : at + rows * width ≤ length (now table);
+      rising : Rising (now table) (at + (rows - 1) * width) width;
+    } ⌝ }
     ensures { λ r. ⌜ Spans (now (table .entry)) (now (table .exit)) at (rows * width) (finished (now (table .entry)) (at + (rows - 1) * width) width) ⌝ }
 {
     write_rows(table, at, rows, width, at, true);

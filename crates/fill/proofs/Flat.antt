@@ -13,7 +13,7 @@ use Rattle.table.specs.Table.{cells}
 use Rattle.moves.specs.Moves.{moved, shiftOf, reachOf}
 use Rattle.moves.proofs.Reach.{reach-is, shift-is, reach-none, axis-on}
 use Rattle.follow.specs.Follow.{followsAt}
-use Rattle.follow.proofs.Places.{width-some, energy-of, temperature-of}
+use Rattle.table.proofs.Places.{width-some, energy-of, temperature-of}
 use Rattle.fill.specs.Layer.{upToAt}
 use Rattle.fill.proofs.Moving.{up-lawful, up-unlawful}
 

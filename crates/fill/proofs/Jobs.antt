@@ -16,7 +16,7 @@ use Rattle.open_ways.specs.Moves.{Moving, Lows, relaxedAt}
 use Rattle.relax.specs.Levels.{Levels}
 use Rattle.moves.specs.Moves.{Room, Moves}
 use Rattle.follow.specs.Follow.{Expanded}
-use Rattle.follow.proofs.Places.{base-level, base-next, base-mono, base-need}
+use Rattle.table.proofs.Places.{base-level, base-next, base-mono, base-need}
 use Rattle.fill.specs.Layer.{FilledFrom}
 use Rattle.fill.proofs.Layering.{moving, lows, relaxed-word}
 

@@ -16,7 +16,7 @@ use Rattle.open_ways.specs.Moves.{Moving, Lows, relaxedAt}
 use Rattle.moves.specs.Moves.{moved, shiftOf, reachOf, Room, Moves}
 use Rattle.moves.proofs.Reach.{reach-shift, moved-time}
 use Rattle.follow.specs.Follow.{followsAt, Ahead}
-use Rattle.follow.proofs.Places.{energy-of, temperature-of, base-level, base-word}
+use Rattle.table.proofs.Places.{energy-of, temperature-of, base-level, base-word}
 use Rattle.fill.specs.Layer.{upToAt}
 use Rattle.fill.proofs.Moving.{up-none, up-word, follows-most}
 use Rattle.fill.proofs.Flat.{shift-within, up-reach, up-beyond}

@@ -16,12 +16,13 @@ use Rattle.frame.proofs.Table.{temperature-cell, least-word}
 use Rattle.frame.proofs.Words.{least-bounded, least-small}
 use Rattle.store.specs.Store.{jobsMax}
 use Rattle.run.proofs.Small.{jobMost}
-use Rattle.table.proofs.Lookup.{least-more, least-none, next-cell, cost-energy, cost-temperature, cost-within}
+use Rattle.table.proofs.Ways.{least-more, least-none, next-cell, cost-energy, cost-temperature, cost-within}
 use Rattle.table.proofs.Cells.{at-cell}
 use Rattle.word.specs.Word.{far, near, settled}
 use Rattle.moves.specs.Moves.{moved}
 use Rattle.moves.proofs.Reach.{ceil-add}
-use Rattle.follow.specs.Follow.{warmed, nextCell, follows}
+use Rattle.next_cells.specs.Next.{warmed, nextCell}
+use Rattle.follow.specs.Follow.{follows}
 use Rattle.fill.specs.Layer.{upTo}
 
 -- ---- the move from any cell

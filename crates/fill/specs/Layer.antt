@@ -9,10 +9,8 @@ use Rattle.frame.specs.Sheet.{Sheet}
 use Rattle.frame.specs.Plan.{leastOf, via, least}
 use Rattle.frame.specs.Table.{temperatureCells, need, cell, wordAt}
 use Rattle.store.specs.Store.{levelsMax}
-use Rattle.table.specs.Table.{base}
 use Rattle.word.specs.Word.{near}
 use Rattle.one_level.specs.Level.{partSize}
-use Rattle.moves.specs.Moves.{Room}
 
 -- Scratch for the words that are worked on at once, of every level that there can be.
 abbrev pub scratchSize : ℕ
@@ -33,11 +31,3 @@ pub record FilledFrom (s : Sheet) (k : ℕ) (old new : List ℕ) : Type 0 where
   pub within : (q : ℕ) → k ≤ q → q < need s → getD new q 0 ≡ wordAt s q
   pub beyond : (q : ℕ) → need s ≤ q → getD new q 0 ≡ getD old q 0
   pub ahead : (q : ℕ) → q < k → getD new q 0 ≡ getD old q 0
-
--- What filling the words of job i may rest on: the words of the next job, and scratch that is long enough.
-pub record Ready (s : Sheet) (i : ℕ) (table shifts reaches times part : List ℕ) : Type 0 where
-  pub room : need s ≤ length table
-  pub job : i < s.jobs
-  pub next : FilledFrom s (base s (suc i) 0) table table
-  pub moves : Room shifts reaches times
-  pub scratch : scratchSize ≤ length part

@@ -1,12 +1,13 @@
 ghost use mathlib.Core.Path.{_≡_};
-ghost use Prim.Native.Nat.{_≤_};
+ghost use Prim.Native.Nat.{suc, _≤_, _<_};
 ghost use lib.ListN.{length};
 ghost use Rattle.frame.specs.Sheet.{Sheet};
 ghost use Rattle.frame.specs.Table.{need, filled};
 ghost use Rattle.store.specs.Figures.{sheetOf};
 ghost use Rattle.table.specs.Table.{Framed, base};
 ghost use Rattle.relax.specs.Levels.{Scratch};
-ghost use Rattle.fill.specs.Layer.{FilledFrom, Ready};
+ghost use Rattle.moves.specs.Moves.{Room};
+ghost use Rattle.fill.specs.Layer.{scratchSize, FilledFrom};
 use one_level::PART_SIZE;
 use store::CHANGES_MAX;
 use store::LEVELS_MAX;
@@ -30,10 +31,16 @@ fn fill_job(
 )
     ghost { Sheet }
     requires { λ s. ⌜ sheetOf (f .head) (now store) ≡ s ⌝ }
-    requires { λ s. ⌜ Framed s f (now store) (now steady) ⌝ }
-    requires { λ s. ⌜ Ready s i (now table) (now shifts) (now reaches) (now times) (now part) ⌝ }
-    ensures { λ s r. ⌜ FilledFrom s (base s i 0) (now (table .entry)) (now (table .exit)) ⌝ }
+    requires { λ s. ⌜ record {
+      framed : Framed s f (now store) (now steady);
+      room : need s ≤ length (now table);
+      job : i < s .jobs;
+      next : FilledFrom s (base s (suc i) 0) (now table) (now table);
+      moves : Room (now shifts) (now reaches) (now times);
+      scratch : scratchSize ≤ length (now part);
+    } ⌝ }
     ensures { λ s r. ⌜ record {
+      filled : FilledFrom s (base s i 0) (now (table .entry)) (now (table .exit));
       shifts : Scratch (now (shifts .entry)) (now (shifts .exit));
       reaches : Scratch (now (reaches .entry)) (now (reaches .exit));
       times : Scratch (now (times .entry)) (now (times .exit));
@@ -52,8 +59,7 @@ fn fill_job(
 pub fn fill(f: Frame, store: &[u32; STORE_SIZE], steady: &[u32; LEVELS_MAX], table: &mut [u32])
     ghost { Sheet }
     requires { λ s. ⌜ sheetOf (f .head) (now store) ≡ s ⌝ }
-    requires { λ s. ⌜ Framed s f (now store) (now steady) ⌝ }
-    requires { λ s. ⌜ need s ≤ length (now table) ⌝ }
+    requires { λ s. ⌜ record { framed : Framed s f (now store) (now steady); room : need s ≤ length (now table) } ⌝ }
     ensures { λ s r. ⌜ now (table .exit) ≡ filled s (now (table .entry)) ⌝ }
 {
     let mut shifts = [0u32; CHANGES_MAX];

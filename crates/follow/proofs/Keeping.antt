@@ -12,7 +12,7 @@ use Rattle.table.specs.Table.{base, Holds}
 use Rattle.table.proofs.Cells.{place-from}
 use Rattle.spans.specs.Spans.{Spans}
 use Rattle.follow.specs.Follow.{Kept, Follows, Ahead}
-use Rattle.follow.proofs.Places.{base-start, base-before}
+use Rattle.table.proofs.Places.{base-start, base-before}
 
 -- ---- words that are kept
 

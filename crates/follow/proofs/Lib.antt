@@ -1,6 +1,3 @@
-pub mod Multiplied
-pub mod Places
-pub mod Warming
-pub mod Rows
 pub mod Keeping
+pub mod Rows
 pub mod Laying

@@ -13,8 +13,9 @@ use Rattle.frame.specs.Table.{temperatureCells, place, word}
 use Rattle.frame.proofs.Table.{digit-div, digit-mod}
 use Rattle.table.specs.Table.{cells, base, Holds}
 use Rattle.cell_map.specs.Rows.{gathered, finished}
-use Rattle.follow.specs.Follow.{nextCell, follows, followsAt}
-use Rattle.follow.proofs.Places.{energy-of, temperature-of, base-word}
+use Rattle.next_cells.specs.Next.{nextCell}
+use Rattle.follow.specs.Follow.{follows, followsAt}
+use Rattle.table.proofs.Places.{energy-of, temperature-of, base-word}
 
 module _ (s : Sheet) (i j : ℕ) (t : List ℕ) (map : ℕ) (m : (b : ℕ) → b < temperatureCells s → getD t (map + b) 0 ≡ nextCell s i j b) where
   -- Where there is a next job.

@@ -1,48 +1,19 @@
--- What follows a job (document 01, 'The rounded run and the table'). From a cell, a job at level j moves the temperature cell to one that
--- is the same for all levels left and all energy cells, and what follows is the word of the next job there.
+-- What follows a job (document 01, 'The rounded run and the table'): the word of the next job in the temperature cell after the job
+-- (`next_cells`).
 -- Assumes nothing.
 use mathlib.Core.Path.{_≡_}
 use mathlib.Core.Bool.{cond}
 use mathlib.Core.Logic.{_⊎_}
 use mathlib.Core.List.{List}
-use Prim.Native.Nat.{ℕ, suc, _+_, _*_, _-_, _/_, _%_, _≤_, _<_}
-use lib.Dec.{leb, ltb}
+use Prim.Native.Nat.{ℕ, suc, _+_, _-_, _/_, _%_, _≤_, _<_}
+use lib.Dec.{ltb}
 use lib.ListN.{length, getD}
-use Rattle.thermal.specs.Rounding.{ceilDiv}
 use Rattle.frame.specs.Sheet.{Sheet}
-use Rattle.frame.specs.Run.{fresh, step}
 use Rattle.frame.specs.Plan.{least}
 use Rattle.frame.specs.Table.{temperatureCells, cell}
-use Rattle.step.specs.Store.{temperatureMax}
-use Rattle.table.specs.declared.Frame.{Frame}
-use Rattle.table.specs.Table.{wordsMax, cells, base}
+use Rattle.table.specs.Table.{cells, base}
 use Rattle.word.specs.Word.{far, near}
-
--- 2 ^ 32, the scale of a multiplier that stands for a division.
-abbrev pub scale : ℕ
-scale = 4294967296
-
--- The multiplier that stands for a division by h: 2 ^ 32 / h, rounded up.
-abbrev pub multiplierOf : ℕ → ℕ
-multiplierOf h = 4294967295 / h + 1
-
--- What finding a temperature cell may rest on.
-pub record Warms (f : Frame) (multiplier : ℕ) : Type 0 where
-  pub limit : f .head .«temperature_limit» ≤ temperatureMax
-  pub step : 1 ≤ f .head .«temperature_step»
-  pub step-most : f .head .«temperature_step» ≤ temperatureMax
-  pub columns : f .«temperature_cells» ≤ wordsMax
-  pub scaled : multiplier ≡ multiplierOf (f .head .«temperature_step»)
-
--- The temperature after job i at level j, from temperature t.
-abbrev pub warmed : Sheet → ℕ → ℕ → ℕ → ℕ
-warmed s i j t = (step s (fresh i j 0 t) j) .temperature
-
--- The temperature cell after job i at level j, from temperature cell b; B, which is none, where it ends above C.
-unfoldable pub nextCell : Sheet → ℕ → ℕ → ℕ → ℕ
-nextCell s i j b =
-    let t : ℕ = warmed s i j (b * s.temperatureStep) in
-    cond (leb t s.temperatureLimit) (ceilDiv t s.temperatureStep) (temperatureCells s)
+use Rattle.next_cells.specs.Next.{nextCell}
 
 -- The least time of the jobs after job i, which was done at level j from temperature cell b and left energy cell a.
 unfoldable pub follows : Sheet → ℕ → ℕ → ℕ → ℕ → ℕ

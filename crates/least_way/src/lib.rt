@@ -1,6 +1,6 @@
 ghost use Prim.Native.Nat.{_+_, _≤_};
 ghost use Rattle.store.specs.Store.{levelsMax};
-ghost use Rattle.one_way.specs.Way.{Leads};
+ghost use Rattle.one_way.specs.Way.{Opened};
 ghost use Rattle.least_way.specs.Least.{leastIn, TimeOf};
 use one_way::time_by;
 use word::lesser;
@@ -14,7 +14,7 @@ pub fn of_two(
     k: usize,
     q: usize,
 ) -> u32
-    requires { ⌜ (Leads (now table) (q + 1) count (now froms) (now times)) × (1 ≤ count) × (k + 2 ≤ levelsMax) ⌝ }
+    requires { ⌜ record { ways : Opened (now table) (q + 1) count (now froms) (now times); places : k + 2 ≤ levelsMax } ⌝ }
     ensures { λ r. ⌜ TimeOf (leastIn (now (table .entry)) (now (froms .entry)) (now (times .entry)) count q k 2) r ⌝ }
 {
     let a = time_by(table, froms, times, count, k, q);
@@ -31,7 +31,7 @@ pub fn of_four(
     k: usize,
     q: usize,
 ) -> u32
-    requires { ⌜ (Leads (now table) (q + 1) count (now froms) (now times)) × (1 ≤ count) × (k + 4 ≤ levelsMax) ⌝ }
+    requires { ⌜ record { ways : Opened (now table) (q + 1) count (now froms) (now times); places : k + 4 ≤ levelsMax } ⌝ }
     ensures { λ r. ⌜ TimeOf (leastIn (now (table .entry)) (now (froms .entry)) (now (times .entry)) count q k 4) r ⌝ }
 {
     let a = of_two(table, froms, times, count, k, q);
@@ -41,7 +41,7 @@ pub fn of_four(
 
 // The same by the ways in the first six places.
 pub fn of_six(table: &[u32], froms: &[usize], times: &[u32], count: usize, q: usize) -> u32
-    requires { ⌜ (Leads (now table) (q + 1) count (now froms) (now times)) × (1 ≤ count) ⌝ }
+    requires { ⌜ Opened (now table) (q + 1) count (now froms) (now times) ⌝ }
     ensures { λ r. ⌜ TimeOf (leastIn (now (table .entry)) (now (froms .entry)) (now (times .entry)) count q 0 6) r ⌝ }
 {
     let a = of_four(table, froms, times, count, 0, q);
@@ -51,7 +51,7 @@ pub fn of_six(table: &[u32], froms: &[usize], times: &[u32], count: usize, q: us
 
 // The same by the ways in the first eight places.
 pub fn of_eight(table: &[u32], froms: &[usize], times: &[u32], count: usize, q: usize) -> u32
-    requires { ⌜ (Leads (now table) (q + 1) count (now froms) (now times)) × (1 ≤ count) ⌝ }
+    requires { ⌜ Opened (now table) (q + 1) count (now froms) (now times) ⌝ }
     ensures { λ r. ⌜ TimeOf (leastIn (now (table .entry)) (now (froms .entry)) (now (times .entry)) count q 0 8) r ⌝ }
 {
     let a = of_four(table, froms, times, count, 0, q);

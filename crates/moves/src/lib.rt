@@ -44,8 +44,7 @@ fn move_of(
 ) -> Move
     ghost { Sheet }
     requires { λ s. ⌜ sheetOf (f .head) (now store) ≡ s ⌝ }
-    requires { λ s. ⌜ Framed s f (now store) (now steady) ⌝ }
-    requires { λ s. ⌜ record { job : i < s .jobs; left : p < s .levels; entered : j < s .levels } ⌝ }
+    requires { λ s. ⌜ record { framed : Framed s f (now store) (now steady); job : i < s .jobs; left : p < s .levels; entered : j < s .levels } ⌝ }
     ensures { λ s r. ⌜ r ≡ moveOf s i p j ⌝ }
 {
     let b = step::next_job(Run::fresh(i, p, 0, 0), store, steady, j);
@@ -82,8 +81,8 @@ fn find_moves_from(
 )
     ghost { Sheet }
     requires { λ s. ⌜ sheetOf (f .head) (now store) ≡ s ⌝ }
-    requires { λ s. ⌜ Framed s f (now store) (now steady) ⌝ }
     requires { λ s. ⌜ record {
+      framed : Framed s f (now store) (now steady);
       job : i < s .jobs;
       left : p < s .levels;
       room : Room (now shifts) (now reaches) (now times);
@@ -115,8 +114,7 @@ pub fn find_moves(
 )
     ghost { Sheet }
     requires { λ s. ⌜ sheetOf (f .head) (now store) ≡ s ⌝ }
-    requires { λ s. ⌜ Framed s f (now store) (now steady) ⌝ }
-    requires { λ s. ⌜ record { job : i < s .jobs; room : Room (now shifts) (now reaches) (now times) } ⌝ }
+    requires { λ s. ⌜ record { framed : Framed s f (now store) (now steady); job : i < s .jobs; room : Room (now shifts) (now reaches) (now times) } ⌝ }
     ensures { λ s r. ⌜ Moves s i (s .levels * s .levels) (now (shifts .exit)) (now (reaches .exit)) (now (times .exit)) ⌝ }
 {
     let l = f.head.levels;

@@ -9,7 +9,7 @@ use word::cap;
 
 // Writes one column, from the column of the next job at `from`.
 fn gather_column(table: &mut [u32], at: usize, rows: usize, width: usize, from: usize)
-    requires { ⌜ (1 ≤ rows) × (1 ≤ width) × (at + (rows - 1) * width < from) × (from + (rows - 1) * width < length (now table)) ⌝ }
+    requires { ⌜ record { rows-some : 1 ≤ rows; width-some : 1 ≤ width; behind : at + (rows - 1) * width < from; room : from + (rows - 1) * width < length (now table) } ⌝ }
     ensures { λ r. ⌜ Column (now (table .entry)) (now (table .exit)) at rows width (λ (a : ℕ). near (getD (now (table .entry)) (from + a * width) 0)) ⌝ }
 {
     let mut a: usize = 0;
@@ -21,7 +21,7 @@ fn gather_column(table: &mut [u32], at: usize, rows: usize, width: usize, from: 
 
 // Writes one column that leads to no cell.
 fn clear_column(table: &mut [u32], at: usize, rows: usize, width: usize)
-    requires { ⌜ (1 ≤ rows) × (1 ≤ width) × (at + (rows - 1) * width < length (now table)) ⌝ }
+    requires { ⌜ record { rows-some : 1 ≤ rows; width-some : 1 ≤ width; room : at + (rows - 1) * width < length (now table) } ⌝ }
     ensures { λ r. ⌜ Column (now (table .entry)) (now (table .exit)) at rows width (λ (a : ℕ). far) ⌝ }
 {
     let mut a: usize = 0;
@@ -33,7 +33,7 @@ fn clear_column(table: &mut [u32], at: usize, rows: usize, width: usize)
 
 // Writes the column whose cells lead to cell q of their rows.
 pub fn lay_column(table: &mut [u32], at: usize, rows: usize, width: usize, next: usize, q: usize)
-    requires { ⌜ (1 ≤ rows) × (1 ≤ width) × (at + (rows - 1) * width < next) × (next + rows * width ≤ length (now table)) ⌝ }
+    requires { ⌜ record { rows-some : 1 ≤ rows; width-some : 1 ≤ width; behind : at + (rows - 1) * width < next; room : next + rows * width ≤ length (now table) } ⌝ }
     ensures { λ r. ⌜ Column (now (table .entry)) (now (table .exit)) at rows width (λ (a : ℕ). cond (ltb q width) (near (getD (now (table .entry)) (next + q + a * width) 0)) far) ⌝ }
 {
     if q < width {

@@ -24,7 +24,11 @@ pub fn relax_level(
     x: usize,
     n: usize,
 )
-    requires { ⌜ (Job (now table) (now part) (now shifts) (now reaches) (now times) at levels cells x) × (Part cells x n) × (p < levels) ⌝ }
+    requires { ⌜ record {
+      job : Job (now table) (now part) (now shifts) (now reaches) (now times) at levels cells x;
+      words : Part cells x n;
+      level : p < levels;
+    } ⌝ }
     ensures { λ r. ⌜ Spans (now (part .entry)) (now (part .exit)) (p * partSize) n (λ (q : ℕ). settled (relaxedAt (now (shifts .entry)) (now (reaches .entry)) (now (times .entry)) (now (table .entry)) levels cells at p levels (x + q))) ⌝ }
 {
     let mut froms = [0usize; LEVELS_MAX];

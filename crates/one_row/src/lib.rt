@@ -35,7 +35,7 @@ fn put(words: &mut [u32], k: usize, w: u32)
 // place. Parts are taken in the loop so that three pointers are worked out once: an index into the whole table takes a sum for
 // each word.
 pub fn gather(table: &mut [u32], at: usize, map: usize, row: usize, width: usize, n: usize)
-    requires { ⌜ (at ≤ map) × (map + width ≤ row) × (row + width ≤ length (now table)) × (Leading (now table) map width n) ⌝ }
+    requires { ⌜ record { map-behind : at ≤ map; row-behind : map + width ≤ row; room : row + width ≤ length (now table); leading : Leading (now table) map width n } ⌝ }
     ensures { λ r. ⌜ Spans (now (table .entry)) (now (table .exit)) at n (λ (k : ℕ). near (getD (now (table .entry)) (row + getD (now (table .entry)) (map + k) 0) 0)) ⌝ }
 {
     let map_end = map + width;

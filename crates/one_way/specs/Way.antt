@@ -24,3 +24,8 @@ pub record Leads (table : List ℕ) (n count : ℕ) (froms times : List ℕ) : T
   pub room : (k : ℕ) → k < count → getD froms k 0 + n ≤ length table
   pub low : (k q : ℕ) → k < count → q < n → getD table (getD froms k 0 + q) 0 ≤ far
   pub short : (k : ℕ) → k < count → getD times k 0 ≤ moveTimeMax
+
+-- The same of at least one way.
+pub record Opened (table : List ℕ) (n count : ℕ) (froms times : List ℕ) : Type 0 where
+  pub leads : Leads table n count froms times
+  pub some : 1 ≤ count

@@ -27,11 +27,20 @@ pub fn find_ways(
     froms: &mut [usize],
     costs: &mut [u32],
 ) -> Span
-    requires { ⌜ Moving levels cells (now shifts) (now reaches) (now times) ⌝ }
-    requires { ⌜ (at + levels * cells ≤ tableWordsMax) × (p < levels) × (y < end) × (end ≤ cells) ⌝ }
-    requires { ⌜ (levelsMax ≤ length (now froms)) × (levelsMax ≤ length (now costs)) ⌝ }
-    ensures { λ r. ⌜ Open (now (shifts .entry)) (now (reaches .entry)) (now (times .entry)) levels cells at p levels y end (r .count) (r .to) (now (froms .exit)) (now (costs .exit)) ⌝ }
-    ensures { λ r. ⌜ (length (now (froms .exit)) ≡ length (now (froms .entry))) × (length (now (costs .exit)) ≡ length (now (costs .entry))) ⌝ }
+    requires { ⌜ record {
+      moves : Moving levels cells (now shifts) (now reaches) (now times);
+      small : at + levels * cells ≤ tableWordsMax;
+      level : p < levels;
+      some : y < end;
+      within : end ≤ cells;
+      froms-long : levelsMax ≤ length (now froms);
+      costs-long : levelsMax ≤ length (now costs);
+    } ⌝ }
+    ensures { λ r. ⌜ record {
+      ways : Open (now (shifts .entry)) (now (reaches .entry)) (now (times .entry)) levels cells at p levels y end (r .count) (r .to) (now (froms .exit)) (now (costs .exit));
+      froms-long : length (now (froms .exit)) ≡ length (now (froms .entry));
+      costs-long : length (now (costs .exit)) ≡ length (now (costs .entry));
+    } ⌝ }
 {
     let mut count: usize = 0;
     let mut to = end;

@@ -12,7 +12,7 @@ use Rattle.word.specs.Word.{settled}
 use Rattle.spans.specs.Spans.{Spans}
 use Rattle.open_ways.specs.Moves.{Moving, Lows, relaxedAt}
 use Rattle.open_ways.proofs.Moves.{level-end, move-within, relaxed-on, relaxed-off}
-use Rattle.one_level.specs.Level.{partSize, Room, Job}
+use Rattle.one_level.specs.Level.{partSize, Room}
 use Rattle.relax.specs.Levels.{Parted, Levels}
 
 -- ---- a run of words

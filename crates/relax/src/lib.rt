@@ -22,7 +22,7 @@ fn relax_part(
     x: usize,
     n: usize,
 )
-    requires { ⌜ (Job (now table) (now part) (now shifts) (now reaches) (now times) at levels cells x) × (Part cells x n) ⌝ }
+    requires { ⌜ record { job : Job (now table) (now part) (now shifts) (now reaches) (now times) at levels cells x; words : Part cells x n } ⌝ }
     ensures { λ r. ⌜ Parted (now (part .entry)) (now (part .exit)) levels n (λ (p q : ℕ). settled (relaxedAt (now (shifts .entry)) (now (reaches .entry)) (now (times .entry)) (now (table .entry)) levels cells at p levels (x + q))) ⌝ }
 {
     let mut p: usize = 0;
@@ -54,7 +54,7 @@ fn copy_part(
     x: usize,
     n: usize,
 )
-    requires { ⌜ (Room (now table) (now part) at levels cells) × (Part cells x n) ⌝ }
+    requires { ⌜ record { room : Room (now table) (now part) at levels cells; words : Part cells x n } ⌝ }
     ensures { λ r. ⌜ Levels (now (table .entry)) (now (table .exit)) at levels cells x (x + n) (λ (p y : ℕ). getD (now (part .entry)) (p * partSize + (y - x)) 0) ⌝ }
 {
     let mut p: usize = 0;
@@ -77,8 +77,10 @@ pub fn relax_words(
     times: &[u32],
 )
     requires { ⌜ Job (now table) (now part) (now shifts) (now reaches) (now times) at levels cells 0 ⌝ }
-    ensures { λ r. ⌜ Levels (now (table .entry)) (now (table .exit)) at levels cells 0 cells (λ (p y : ℕ). settled (relaxedAt (now (shifts .entry)) (now (reaches .entry)) (now (times .entry)) (now (table .entry)) levels cells at p levels y)) ⌝ }
-    ensures { λ r. ⌜ Scratch (now (part .entry)) (now (part .exit)) ⌝ }
+    ensures { λ r. ⌜ record {
+      words : Levels (now (table .entry)) (now (table .exit)) at levels cells 0 cells (λ (p y : ℕ). settled (relaxedAt (now (shifts .entry)) (now (reaches .entry)) (now (times .entry)) (now (table .entry)) levels cells at p levels y));
+      scratch : Scratch (now (part .entry)) (now (part .exit));
+    } ⌝ }
 {
     let mut x: usize = 0;
     while x < cells {

@@ -20,8 +20,9 @@ use Rattle.frame.proofs.Demand2.{demand2}
 use Rattle.run.specs.Run.{stateOf}
 use Rattle.run.specs.declared.Run.{Run}
 use Rattle.table.specs.declared.Frame.{Frame}
-use Rattle.table.specs.Table.{Axes, Steps, placeBy, restIn, restBy}
-use Rattle.table.proofs.Lookup.{rest-by, rest-least, looks}
+use Rattle.table.specs.Table.{Axes}
+use Rattle.lookup.specs.Lookup.{Looks, restIn}
+use Rattle.lookup.proofs.Lookup.{rest-by, rest-least, looks}
 use Rattle.table.proofs.Cells.{filled-words}
 use Rattle.walk.specs.Walk.{Starts}
 use Rattle.reply.specs.declared.Reply.{Reply}
@@ -31,8 +32,8 @@ use Rattle.solve.specs.Solve.{Within, isPlan, Finds}
 -- ---- the start's word
 
 module _ {s : Sheet} {f : Frame} (x : Axes s f) (b : Run) (w : Within s (stateOf b)) where
-  pub start-looks : b .done < f .head .jobs → (Steps f b) × (placeBy f b < need s)
-  start-looks d = looks x b (w .level) (w .energy) (w .temperature) d
+  pub start-looks : {n : ℕ} → need s ≤ n → b .done < f .head .jobs → Looks f b n
+  start-looks h d = looks x b (w .level) (w .energy) (w .temperature) h d
 
   pub start-rest : (words words' : List ℕ) (k : ℕ) → need s ≤ length words → words' ≡ filled s words → k ≡ restIn f words' b → k ≡ least s (s.jobs - b .done) (stateOf b)
   start-rest words words' k room t q =

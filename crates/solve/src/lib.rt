@@ -24,12 +24,14 @@ fn find_plan(
 ) -> bool
     ghost { Sheet }
     requires { λ s. ⌜ sheetOf (f .head) (now store) ≡ s ⌝ }
-    requires { λ s. ⌜ Framed s f (now store) (now steady) ⌝ }
-    requires { λ s. ⌜ Lent s (stateOf start) (length (now table)) (length (now part)) ⌝ }
+    requires { λ s. ⌜ record {
+      framed : Framed s f (now store) (now steady);
+      lent : Lent s (stateOf start) (length (now table)) (length (now part));
+    } ⌝ }
     ensures { λ s b. ⌜ Finds s (s .jobs - start .done) (stateOf start) (now (table .entry)) (now (table .exit)) (now (part .entry)) (now (part .exit)) b ⌝ }
 {
     fill::fill(f, store, steady, table);
-    let least = table::rest_of(f, table, start);
+    let least = lookup::rest_of(f, table, start);
     if (f.head.deadline as u64) < start.time + least {
         return false;
     }
@@ -47,7 +49,7 @@ pub fn solve(
 ) -> Reply
     ghost { Sheet }
     requires { λ s. ⌜ sheetOf (f .head) (now store) ≡ s ⌝ }
-    requires { λ s. ⌜ (Axes s f) × (Lent s (stateOf start) (length (now table)) (length (now part))) ⌝ }
+    requires { λ s. ⌜ record { axes : Axes s f; lent : Lent s (stateOf start) (length (now table)) (length (now part)) } ⌝ }
     ensures { λ s q. ⌜ Answers (foundFrom s (stateOf start)) (now (table .entry)) (now (table .exit)) (now (part .entry)) (now (part .exit)) q ⌝ }
 {
     let states = step::steady_states(store, f.head.resistance);

@@ -24,7 +24,7 @@ pub fn set(words: &mut [u32], at: usize, n: usize, w: u32)
 
 // Copies n words.
 pub fn copy(table: &mut [u32], at: usize, words: &[u32], from: usize, n: usize)
-    requires { ⌜ (at + n ≤ length (now table)) × (from + n ≤ length (now words)) ⌝ }
+    requires { ⌜ record { room : at + n ≤ length (now table); source : from + n ≤ length (now words) } ⌝ }
     ensures { λ r. ⌜ Spans (now (table .entry)) (now (table .exit)) at n (λ (k : ℕ). getD (now (words .entry)) (from + k) 0) ⌝ }
 {
     let mut k: usize = 0;

@@ -11,11 +11,12 @@ use Rattle.frame.specs.Sheet.{Sheet, Ranges}
 use Rattle.thermal.specs.Rounding.{ceilDiv, raise}
 use Rattle.thermal.proofs.Rounding.{raise-le, raise-multiple, raise-warmest}
 use Rattle.frame.specs.Run.{raised}
+use Rattle.run.specs.declared.Run.{Run}
 use Rattle.frame.specs.Table.{energyCells, temperatureCells, need, place, cell, wordAt, tabulate, filled}
 use Rattle.frame.proofs.Table.{place-lt, word-at}
 use Rattle.frame.proofs.Tabulate.{length-tabulate, getD-tabulate}
 use Rattle.table.specs.declared.Frame.{Frame}
-use Rattle.table.specs.Table.{wordsMax, raisedEnergyMax, Axes, AtCell, cells, Holds}
+use Rattle.table.specs.Table.{wordsMax, raisedEnergyMax, Axes, AtCell, Raises, cells, Holds}
 
 module _ (s : Sheet) where
   -- The words of m jobs done come after those of fewer.
@@ -77,3 +78,18 @@ filled-words s old i room =
           List·getD-append (tabulate (wordAt s) 0 (need s)) (drop (need s) old) 0 k (omega (arith, length-tabulate (wordAt s) 0 (need s)))
           ∙ getD-tabulate (wordAt s) 0 (need s) k l ∙ ap (wordAt s) (zero-add k) ∙ word-at s i p x y hp hx hy;
     }
+
+-- A run within the limits can be raised.
+pub raises : {s : Sheet} {f : Frame} → Axes s f → (b : Run) → b .energy ≤ s.energyBudget → b .temperature ≤ s.temperatureLimit → Raises f b
+raises x b u v =
+    omega (
+      arith,
+      u,
+      v,
+      x .energy-step,
+      x .temperature-step,
+      x .ranges .energyBudget,
+      x .ranges .temperatureLimit,
+      x .ranges .energyStep,
+      x .ranges .temperatureStep,
+    )

@@ -1,2 +1,3 @@
-pub mod Lookup
+pub mod Ways
 pub mod Cells
+pub mod Places

@@ -1,16 +1,12 @@
 -- What the code that fills and reads the table speaks of (document 01, 'The rounded run and the table'): the frame that is handed
--- over and its sheet, a cell, and what a table says of the time that is left.
+-- over and its sheet, its axes, a cell and where its words stand.
 -- Assumes nothing.
 use mathlib.Core.Path.{_≡_}
-use mathlib.Core.Bool.{cond}
 use mathlib.Core.List.{List}
 use Prim.Native.Nat.{ℕ, _+_, _*_, _≤_, _<_}
-use lib.Dec.{ltb}
 use lib.ListN.{getD}
-use Rattle.thermal.specs.Rounding.{ceilDiv}
 use Rattle.frame.specs.Sheet.{Sheet, Ranges}
 use Rattle.frame.specs.Run.{State, fresh, raised}
-use Rattle.frame.specs.Plan.{leastOf, firstWithin, via}
 use Rattle.frame.specs.Table.{energyCells, temperatureCells, need, place, word}
 use Rattle.run.specs.declared.Run.{Run}
 use Rattle.step.specs.Store.{limitMax, Stored}
@@ -59,34 +55,6 @@ pub record Raises (f : Frame) (b : Run) : Type 0 where
   pub energy-step-most : f .head .«energy_step» ≤ limitMax
   pub temperature-step : 1 ≤ f .head .«temperature_step»
   pub temperature-step-most : f .head .«temperature_step» ≤ limitMax
-
--- What finding a run's cell may rest on: the run can be raised, and there are cells.
-pub record Steps (f : Frame) (b : Run) : Type 0 where
-  pub raises : Raises f b
-  pub energy-cells : 1 ≤ f .«energy_cells»
-  pub temperature-cells : 1 ≤ f .«temperature_cells»
-
--- The place of a run's cell, by the axes that the code has.
-unfoldable pub placeBy : Frame → Run → ℕ
-placeBy f b =
-    ((b .done * f .head .levels + b .level) * f .«energy_cells» + ceilDiv (b .energy) (f .head .«energy_step»)) * f .«temperature_cells»
-    + ceilDiv (b .temperature) (f .head .«temperature_step»)
-
--- The place of the cell to which a state is raised.
-unfoldable pub placeFor : Sheet → State → ℕ
-placeFor s b = place s b.done b.level (ceilDiv b.energy s.energyStep) (ceilDiv b.temperature s.temperatureStep)
-
--- What a table says of the time after a job that ends in b: the word of the cell to which b is raised, and 0 after the last.
-unfoldable pub restBy : Sheet → List ℕ → State → ℕ
-restBy s table b = cond (ltb b.done s.jobs) (getD table (placeFor s b) 0) 0
-
--- What a table says of the time after b, by the axes that the code has.
-unfoldable pub restIn : Frame → List ℕ → Run → ℕ
-restIn f table b = cond (ltb (b .done) (f .head .jobs)) (getD table (placeBy f b) 0) 0
-
--- The first level of the next job that takes the least time from a cell on, by what a table says.
-abbrev pub levelBy : Sheet → List ℕ → State → ℕ
-levelBy s table a = firstWithin s.levels (via s (restBy s table) a) (leastOf s.levels (via s (restBy s table) a))
 
 -- The words of one number of jobs done and one level before.
 unfoldable pub cells : Sheet → ℕ

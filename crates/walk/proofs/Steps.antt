@@ -18,9 +18,12 @@ use Rattle.frame.proofs.Walk.{first-same, alike-cell, least-alike, plan-alike, 
 use Rattle.run.specs.Run.{stateOf}
 use Rattle.run.specs.declared.Run.{Run}
 use Rattle.table.specs.declared.Frame.{Frame}
-use Rattle.table.specs.Table.{Axes, AtCell, restBy, levelBy, Holds}
+use Rattle.table.specs.Table.{Axes, AtCell, Holds}
 use Rattle.table.proofs.Cells.{at-cell}
-use Rattle.table.proofs.Lookup.{next-level, next-done, next-peak, next-cell, way-least}
+use Rattle.table.proofs.Ways.{next-level, next-done, next-peak, next-cell}
+use Rattle.lookup.specs.Lookup.{restBy}
+use Rattle.choice.specs.Choice.{levelBy}
+use Rattle.choice.proofs.Choice.{way-least}
 use Rattle.walk.specs.Walk.{Starts}
 
 -- ---- the cell at which the walk stands

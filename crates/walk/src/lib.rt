@@ -1,15 +1,16 @@
 ghost use mathlib.Core.Path.{_≡_};
 ghost use mathlib.Core.List.{_++_};
-ghost use Prim.Native.Nat.{_-_};
-ghost use lib.ListN.{drop};
+ghost use Prim.Native.Nat.{ℕ, _-_, _≤_};
+ghost use lib.ListN.{length, drop};
 ghost use Rattle.thermal.specs.Rounding.{raise};
 ghost use Rattle.frame.specs.Sheet.{Sheet};
 ghost use Rattle.frame.specs.Run.{fresh};
 ghost use Rattle.frame.specs.Plan.{plan};
+ghost use Rattle.frame.specs.Table.{need};
 ghost use Rattle.store.specs.Figures.{sheetOf};
 ghost use Rattle.run.specs.Run.{stateOf};
-ghost use Rattle.table.specs.Table.{Framed, Raises};
-ghost use Rattle.walk.specs.Walk.{Followed};
+ghost use Rattle.table.specs.Table.{Framed, Raises, Holds};
+ghost use Rattle.walk.specs.Walk.{Starts};
 use run::Run;
 use store::LEVELS_MAX;
 use store::STORE_SIZE;
@@ -37,15 +38,20 @@ pub fn walk(
 )
     ghost { Sheet }
     requires { λ s. ⌜ sheetOf (f .head) (now store) ≡ s ⌝ }
-    requires { λ s. ⌜ Framed s f (now store) (now steady) ⌝ }
-    requires { λ s. ⌜ Followed s (now table) (stateOf start) (now part) ⌝ }
+    requires { λ s. ⌜ record {
+      framed : Framed s f (now store) (now steady);
+      room : need s ≤ length (now table);
+      words : (i : ℕ) → Holds s (now table) i;
+      starts : Starts s (stateOf start);
+      long : s .jobs - start .done ≤ length (now part);
+    } ⌝ }
     ensures { λ s r. ⌜ now (part .exit) ≡ plan s (s .jobs - start .done) (stateOf start) ++ drop (s .jobs - start .done) (now (part .entry)) ⌝ }
 {
     let n = (f.head.jobs - start.done) as usize;
     let mut a = raise_run(f, start);
     let mut i: usize = 0;
     while i < n {
-        let j = table::choose(f, store, steady, table, a);
+        let j = choice::choose(f, store, steady, table, a);
         part[i] = j as u8;
         a = raise_run(f, step::next_job(a, store, steady, j));
         i += 1;

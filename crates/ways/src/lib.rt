@@ -2,7 +2,7 @@ ghost use Prim.Native.Nat.{ℕ, _+_, _≤_};
 ghost use lib.ListN.{length};
 ghost use Rattle.word.specs.Word.{settled};
 ghost use Rattle.spans.specs.Spans.{Spans};
-ghost use Rattle.one_way.specs.Way.{Leads};
+ghost use Rattle.one_way.specs.Way.{Leads, Opened};
 ghost use Rattle.least_way.specs.Least.{leastBy, leastIn};
 use least_way::of_eight;
 use least_way::of_four;
@@ -22,7 +22,7 @@ fn by_two(
     times: &[u32],
     count: usize,
 )
-    requires { ⌜ (Leads (now table) n count (now froms) (now times)) × (at + n ≤ length (now words)) × (1 ≤ count) ⌝ }
+    requires { ⌜ record { ways : Opened (now table) n count (now froms) (now times); room : at + n ≤ length (now words) } ⌝ }
     ensures { λ r. ⌜ Spans (now (words .entry)) (now (words .exit)) at n (λ (q : ℕ). settled (leastIn (now (table .entry)) (now (froms .entry)) (now (times .entry)) count q 0 2)) ⌝ }
 {
     let mut q: usize = 0;
@@ -42,7 +42,7 @@ fn by_four(
     times: &[u32],
     count: usize,
 )
-    requires { ⌜ (Leads (now table) n count (now froms) (now times)) × (at + n ≤ length (now words)) × (1 ≤ count) ⌝ }
+    requires { ⌜ record { ways : Opened (now table) n count (now froms) (now times); room : at + n ≤ length (now words) } ⌝ }
     ensures { λ r. ⌜ Spans (now (words .entry)) (now (words .exit)) at n (λ (q : ℕ). settled (leastIn (now (table .entry)) (now (froms .entry)) (now (times .entry)) count q 0 4)) ⌝ }
 {
     let mut q: usize = 0;
@@ -62,7 +62,7 @@ fn by_six(
     times: &[u32],
     count: usize,
 )
-    requires { ⌜ (Leads (now table) n count (now froms) (now times)) × (at + n ≤ length (now words)) × (1 ≤ count) ⌝ }
+    requires { ⌜ record { ways : Opened (now table) n count (now froms) (now times); room : at + n ≤ length (now words) } ⌝ }
     ensures { λ r. ⌜ Spans (now (words .entry)) (now (words .exit)) at n (λ (q : ℕ). settled (leastIn (now (table .entry)) (now (froms .entry)) (now (times .entry)) count q 0 6)) ⌝ }
 {
     let mut q: usize = 0;
@@ -82,7 +82,7 @@ fn by_eight(
     times: &[u32],
     count: usize,
 )
-    requires { ⌜ (Leads (now table) n count (now froms) (now times)) × (at + n ≤ length (now words)) × (1 ≤ count) ⌝ }
+    requires { ⌜ record { ways : Opened (now table) n count (now froms) (now times); room : at + n ≤ length (now words) } ⌝ }
     ensures { λ r. ⌜ Spans (now (words .entry)) (now (words .exit)) at n (λ (q : ℕ). settled (leastIn (now (table .entry)) (now (froms .entry)) (now (times .entry)) count q 0 8)) ⌝ }
 {
     let mut q: usize = 0;
@@ -102,7 +102,7 @@ pub fn take_span(
     times: &[u32],
     count: usize,
 )
-    requires { ⌜ (Leads (now table) n count (now froms) (now times)) × (at + n ≤ length (now words)) ⌝ }
+    requires { ⌜ record { leads : Leads (now table) n count (now froms) (now times); room : at + n ≤ length (now words) } ⌝ }
     ensures { λ r. ⌜ Spans (now (words .entry)) (now (words .exit)) at n (λ (q : ℕ). settled (leastBy (now (table .entry)) (now (froms .entry)) (now (times .entry)) count q)) ⌝ }
 {
     if count == 0 {

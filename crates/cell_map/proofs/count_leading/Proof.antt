@@ -35,7 +35,7 @@ returns c =
     let a = c .before .before .before .before .before .before in
     let l = c .before .before .before .before .loop in
     let h : a .args .width ≤ getD (now (a .args .table)) (a .args .map + l .b) 0 = omega (arith, c .if1 .taken, c .before .wide .ensures) in
-    record { most = l .inv .0; within = l .inv .1; beyond = λ k g m. a .pre .1 .stays (l .b) k g m h }
+    record { most = l .inv .0; within = l .inv .1; beyond = λ k g m. a .pre .rising .stays (l .b) k g m h }
 
 add-b : tie.Need-add-b Inv-loop μ-loop
 add-b c = search needs

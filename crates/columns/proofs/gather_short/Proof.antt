@@ -19,7 +19,7 @@ sub-map c = search needs
 
 -- Where the first row stands.
 first : (c : tie.After-slice-known Inv-loop μ-loop) → Room 0 (c .before .args .rows) (c .before .args .width)
-first c = row-room 0 _ _ (omega (arith, c .before .pre))
+first c = row-room 0 _ _ (c .before .pre .rows-some)
 
 mul-map : tie.Need-mul-map Inv-loop μ-loop
 mul-map c = search (needs, first c)
@@ -49,7 +49,7 @@ lay-column-requires : tie.Need-lay-column-requires Inv-loop μ-loop
 lay-column-requires c κs =
     let a = c .before .before .before .before .before .before in
     let z = first (c .before .before .before .before .before) in
-    (a .pre .0, a .pre .1, omega (arith, a .pre, z, c .before .before .before .loop-test .taken), omega (arith, a .pre, c .before .before .before .before .loop .inv .1 .long))
+    record { rows-some = a .pre .rows-some; width-some = a .pre .width-some; behind = omega (arith, a .pre .behind, z, c .before .before .before .loop-test .taken); room = omega (arith, a .pre .room, c .before .before .before .before .loop .inv .1 .long) }
 
 add-b : tie.Need-add-b Inv-loop μ-loop
 add-b c = search needs
@@ -61,13 +61,13 @@ loop-again : tie.Need-loop-again Inv-loop μ-loop
 loop-again c =
     let a = c .before .before .before .before .before .before .before .before .before in
     let l = c .before .before .before .before .before .before .before .loop in
-    (omega arith, gathered-column _ _ (a .args .rows) _ _ (l .b) (a .pre .0) (c .before .before .before .before .before .before .loop-test .taken) (a .pre .2) _ (c .before .before .before .before .wide .ensures) (l .inv .1) (c .before .before .lay-column .ensures))
+    (omega arith, gathered-column _ _ (a .args .rows) _ _ (l .b) (a .pre .rows-some) (c .before .before .before .before .before .before .loop-test .taken) (a .pre .behind) _ (c .before .before .before .before .wide .ensures) (l .inv .1) (c .before .before .lay-column .ensures))
 
 same-length : tie.Need-same-length Inv-loop μ-loop
 same-length c = c .before .loop .inv .1 .long
 
 returns : tie.Need-returns Inv-loop μ-loop
-returns c = let l = c .before .loop in columns-all (l .inv .1) (c .before .before .before .pre .1) (l .inv .0) (c .loop-test .left)
+returns c = let l = c .before .loop in columns-all (l .inv .1) (c .before .before .before .pre .width-some) (l .inv .0) (c .loop-test .left)
 
 pub gather-short-spec : {M : Type 1} → statement M
 gather-short-spec =

@@ -5,7 +5,7 @@ use Rattle.expand.proofs.finish_rows.Statement.{statement}
 use Rattle.expand.proofs.finish_rows.Tie as tie
 
 write-rows-requires : tie.Need-write-rows-requires
-write-rows-requires c κs = let a = c .before .before .pre in ((a .0 .0, a .0 .1, a .0 .2, a .0 .2), (a .1, λ e. absurd (true≢false e)))
+write-rows-requires c κs = let a = c .before .before .pre in record { rows-some = a .rows-some; width-some = a .width-some; room = a .room; next-room = a .room; rising = a .rising; next-behind = λ e. absurd (true≢false e) }
 
 same-length : tie.Need-same-length
 same-length c = search needs

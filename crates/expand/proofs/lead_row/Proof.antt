@@ -9,7 +9,7 @@ set-requires : tie.Need-set-requires
 set-requires c κs = search needs
 
 gather-requires : tie.Need-gather-requires
-gather-requires c κs = let a = c .before .before .before .pre in (a .0 .0, a .1 (c .before .if1 .left), a .0 .2, a .0 .3)
+gather-requires c κs = let a = c .before .before .before .pre in record { map-behind = a .map-behind; row-behind = a .row-behind (c .before .if1 .left); room = a .row-room; leading = a .leading }
 
 same-length : tie.Need-same-length
 same-length c = search needs

@@ -23,7 +23,7 @@ sub-map c = search needs
 
 -- Where the first row stands.
 first : (c : tie.After-slice-known Inv-loop μ-loop) → Room 0 (c .before .args .rows) (c .before .args .width)
-first c = row-room 0 _ _ (omega (arith, c .before .pre))
+first c = row-room 0 _ _ (c .before .pre .rows-some)
 
 mul-map : tie.Need-mul-map Inv-loop μ-loop
 mul-map c = search (needs, first c)
@@ -32,7 +32,7 @@ add-map : tie.Need-add-map Inv-loop μ-loop
 add-map c = search (needs, first c)
 
 count-leading-requires : tie.Need-count-leading-requires Inv-loop μ-loop
-count-leading-requires c κs = let a = c .before .before in (omega (arith, a .pre, first (c .before)), a .pre .1 .0)
+count-leading-requires c κs = let a = c .before .before in record { room = omega (arith, a .pre .room, first (c .before)); rising = a .pre .rising }
 
 loop-holds : tie.Need-loop-holds Inv-loop μ-loop
 loop-holds c = (omega arith, rw (zero-mul _) (spans-none _ _ _))
@@ -59,7 +59,7 @@ lead-row-requires c κs =
     let l = c .before .before .loop in
     let z = room (c .before) in
     let lead = leading-kept _ _ _ _ (c .before .before .before .count-leading .ensures) (l .inv .1) (omega (arith, z)) in
-    ((omega (arith, z), omega (arith, a .pre .0, z, l .inv .1 .long), omega (arith, a .pre .0, z, l .inv .1 .long), lead), λ e. omega (arith, a .pre .1 .1 e, z))
+    record { map-behind = omega (arith, z); map-room = omega (arith, a .pre .room, z, l .inv .1 .long); row-room = omega (arith, a .pre .next-room, z, l .inv .1 .long); leading = lead; row-behind = λ e. omega (arith, a .pre .next-behind e, z) }
 
 add-set : tie.Need-add-set Inv-loop μ-loop
 add-set c = search (needs, room (c .before .before .before .before .before), c .before .before .before .before .before .before .before .count-leading .ensures .most)
@@ -70,7 +70,7 @@ sub-set c = c .before .before .before .before .before .before .before .count-lea
 set-requires : tie.Need-set-requires Inv-loop μ-loop
 set-requires c κs =
     let a = c .before .before .before .before .before .before .before .before .before .before in
-    omega (arith, a .pre .0, room (c .before .before .before .before .before), c .before .before .before .before .before .before .before .count-leading .ensures .most, c .before .before .before .before .before .before .loop .inv .1 .long, c .before .before .before .lead-row .ensures .long)
+    omega (arith, a .pre .room, room (c .before .before .before .before .before), c .before .before .before .before .before .before .before .count-leading .ensures .most, c .before .before .before .before .before .before .loop .inv .1 .long, c .before .before .before .lead-row .ensures .long)
 
 add-a : tie.Need-add-a Inv-loop μ-loop
 add-a c = search needs
@@ -83,7 +83,7 @@ loop-again c =
     let a = c .before .before .before .before .before .before .before .before .before .before .before .before .before in
     let l = c .before .before .before .before .before .before .before .before .before .loop in (
       omega arith,
-      written-more _ _ (a .args .rows) _ _ (l .a) (c .before .before .before .before .before .before .before .before .loop-test .taken) (c .before .before .before .before .before .before .before .before .before .before .count-leading .ensures) _ _ (a .pre .1 .1) (l .inv .1) (c .before .before .before .before .before .before .lead-row .ensures) (c .before .before .set .ensures),
+      written-more _ _ (a .args .rows) _ _ (l .a) (c .before .before .before .before .before .before .before .before .loop-test .taken) (c .before .before .before .before .before .before .before .before .before .before .count-leading .ensures) _ _ (a .pre .next-behind) (l .inv .1) (c .before .before .before .before .before .before .lead-row .ensures) (c .before .before .set .ensures),
     )
 
 same-length : tie.Need-same-length Inv-loop μ-loop

@@ -8,7 +8,7 @@ use Rattle.frame.specs.Sheet.{Sheet}
 use Rattle.store.specs.Store.{changesMax}
 use Rattle.store.specs.Figures.{sheetOf}
 use Rattle.table.specs.Table.{base}
-use Rattle.follow.proofs.Places.{base-mono, base-need, base-zero}
+use Rattle.table.proofs.Places.{base-mono, base-need, base-zero}
 use Rattle.fill.specs.Layer.{scratchSize, FilledFrom}
 use Rattle.fill.proofs.Filling.{filled-none, filled-self, filled-trans, filled-all}
 use Rattle.fill.proofs.fill.Statement.{statement}
@@ -32,7 +32,7 @@ loop-holds : tie.Need-loop-holds Inv-loop μ-loop
 loop-holds c =
     let a = c .before in
     let s : Sheet = sheetOf (a .args .f .head) (now (a .args .store)) in
-    let z : base s (a .args .f .head .jobs) 0 ≡ base s s.jobs 0 = ap (λ (n : ℕ). base s n 0) (a .pre .0 .axes .jobs) in
+    let z : base s (a .args .f .head .jobs) 0 ≡ base s s.jobs 0 = ap (λ (n : ℕ). base s n 0) (a .pre .framed .axes .jobs) in
     record { most = omega arith; shifts-long = refl; reaches-long = refl; times-long = refl; part-long = refl; filled = subst (λ (k : ℕ). FilledFrom s k (now (a .args .table)) (now (a .args .table))) (sym (z ∙ base-need s)) (filled-none s _) }
 
 sub-i : tie.Need-sub-i Inv-loop μ-loop
@@ -56,16 +56,15 @@ fill-job-requires c κs =
     let l = c .before .before .before .before .before .before .loop in
     let h = c .before .before .before .before .before .loop-test .taken in
     let s : Sheet = sheetOf (a .args .f .head) (now (a .args .store)) in
-    let z : suc (l .i - 1) ≡ l .i = omega (arith, h) in (
-      a .pre .0,
-      record {
-        room = omega (arith, a .pre .1, l .inv .filled .long);
-        job = omega (arith, h, l .inv .most, a .pre .0 .axes .jobs);
-        next = subst (λ (k : ℕ). FilledFrom s (base s k 0) (l .table) (l .table)) (sym z) (filled-self (l .inv .filled));
-        moves = record { shifts-long = omega (arith, l .inv .shifts-long); reaches-long = omega (arith, l .inv .reaches-long); times-long = omega (arith, l .inv .times-long) };
-        scratch = omega (arith, l .inv .part-long);
-      },
-    )
+    let z : suc (l .i - 1) ≡ l .i = omega (arith, h) in
+    record {
+      framed = a .pre .framed;
+      room = omega (arith, a .pre .room, l .inv .filled .long);
+      job = omega (arith, h, l .inv .most, a .pre .framed .axes .jobs);
+      next = subst (λ (k : ℕ). FilledFrom s (base s k 0) (l .table) (l .table)) (sym z) (filled-self (l .inv .filled));
+      moves = record { shifts-long = omega (arith, l .inv .shifts-long); reaches-long = omega (arith, l .inv .reaches-long); times-long = omega (arith, l .inv .times-long) };
+      scratch = omega (arith, l .inv .part-long);
+    }
 
 loop-less : tie.Need-loop-less Inv-loop μ-loop
 loop-less c = omega (arith, c .before .before .before .before .before .before .before .before .before .before .before .before .loop-test .taken)
@@ -82,7 +81,7 @@ loop-again c =
       reaches-long = omega (arith, w .kept, l .inv .reaches-long);
       times-long = omega (arith, w .kept, l .inv .times-long);
       part-long = omega (arith, w .kept, l .inv .part-long);
-      filled = filled-trans (base-mono s (l .i - 1) (l .i) (omega arith)) (l .inv .filled) (w .ensures .0);
+      filled = filled-trans (base-mono s (l .i - 1) (l .i) (omega arith)) (l .inv .filled) (w .ensures .filled);
     }
 
 same-length : tie.Need-same-length Inv-loop μ-loop
@@ -94,7 +93,7 @@ returns c =
     let l = c .before .loop in
     let s : Sheet = sheetOf (a .args .f .head) (now (a .args .store)) in
     let z : l .i ≡ 0 = omega (arith, c .loop-test .left) in
-    filled-all s _ _ (a .pre .1) (subst (λ (k : ℕ). FilledFrom s k (now (a .args .table)) (l .table)) (ap (λ (n : ℕ). base s n 0) z ∙ base-zero s) (l .inv .filled))
+    filled-all s _ _ (a .pre .room) (subst (λ (k : ℕ). FilledFrom s k (now (a .args .table)) (l .table)) (ap (λ (n : ℕ). base s n 0) z ∙ base-zero s) (l .inv .filled))
 
 pub fill-spec : {M : Type 1} → statement M
 fill-spec =

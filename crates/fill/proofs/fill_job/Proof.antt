@@ -5,8 +5,7 @@ use denote.Ref.{now}
 use Rattle.store.specs.Figures.{sheetOf}
 use Rattle.fill.proofs.Filling.{filled-holds}
 use Rattle.table.proofs.Cells.{cells-small}
-use Rattle.follow.proofs.Places.{base-start, base-mono}
-use Rattle.follow.proofs.Laying.{cells-by, start-is, row-small}
+use Rattle.table.proofs.Places.{base-start, base-mono, cells-by, start-is, row-small}
 use Rattle.fill.proofs.Jobs.{moving-by, room-by, lows-by, filled-by}
 use borrow.Author.Needs.{needs}
 use Rattle.fill.proofs.fill_job.Statement.{statement}
@@ -16,34 +15,33 @@ cast-levels : tie.Need-cast-levels
 cast-levels c = search needs
 
 mul-cells : tie.Need-mul-cells
-mul-cells c = let g = c .before .before .before .before .before .before .before .pre .0 .axes in omega (arith, cells-by g, cells-small g)
+mul-cells c = let g = c .before .before .before .before .before .before .before .pre .framed .axes in omega (arith, cells-by g, cells-small g)
 
 expand-job-requires : tie.Need-expand-job-requires
 expand-job-requires c κs =
     let a = c .before .before .before .before .before .before .before .before in
-    let q = a .pre .1 in
     let s = sheetOf (a .args .f .head) (now (a .args .store)) in
-    (a .pre .0, record { room = q .room; job = q .job; next = filled-holds _ (omega (arith, base-start s (suc (a .args .i)))) (q .next) })
+    record { framed = a .pre .framed; room = a .pre .room; job = a .pre .job; next = filled-holds _ (omega (arith, base-start s (suc (a .args .i)))) (a .pre .next) }
 
 find-moves-requires : tie.Need-find-moves-requires
 find-moves-requires c κs = search needs
 
 mul-at : tie.Need-mul-at
-mul-at c = let g = c .before .before .before .before .before .before .before .before .before .before .before .before .before .before .before .before .before .before .before .before .before .pre .0 .axes in omega (arith, row-small g (c .before .before .before .before .before .before .before .before .before .before .before .before .before .before .before .before .before .before .before .before .before .args .i) 0 (c .before .before .before .before .before .before .before .before .before .before .before .before .before .before .before .before .before .before .before .before .before .pre .1 .job) (g .ranges .levels .low))
+mul-at c = let g = c .before .before .before .before .before .before .before .before .before .before .before .before .before .before .before .before .before .before .before .before .before .pre .framed .axes in omega (arith, row-small g (c .before .before .before .before .before .before .before .before .before .before .before .before .before .before .before .before .before .before .before .before .before .args .i) 0 (c .before .before .before .before .before .before .before .before .before .before .before .before .before .before .before .before .before .before .before .before .before .pre .job) (g .ranges .levels .low))
 
 mul-at-2 : tie.Need-mul-at-2
 mul-at-2 c =
     let a = c .before .before .before .before .before .before .before .before .before .before .before .before .before .before .before .before .before .before .before .before .before in
-    let g = a .pre .0 .axes in
-    omega (arith, start-is g (a .args .i), a .pre .1 .next .most, base-mono (sheetOf (a .args .f .head) (now (a .args .store))) (a .args .i) (suc (a .args .i)) (omega arith), g .allowed)
+    let g = a .pre .framed .axes in
+    omega (arith, start-is g (a .args .i), a .pre .next .most, base-mono (sheetOf (a .args .f .head) (now (a .args .store))) (a .args .i) (suc (a .args .i)) (omega arith), g .allowed)
 
 relax-words-requires : tie.Need-relax-words-requires
 relax-words-requires c κs =
     let a = c .before .before .before .before .before .before .before .before .before .before .before .before .before .before .before .before .before .before .before .before .before .before .before .before .before .before in
-    let g = a .pre .0 .axes in
+    let g = a .pre .framed .axes in
     let i = a .args .i in
-    let hi = a .pre .1 .job in
-    let n = a .pre .1 .moves in
+    let hi = a .pre .job in
+    let n = a .pre .moves in
     let m = c .before .before .before .before .before .before .before .before .before .before .before .find-moves in
     let x = c .before .before .before .before .before .before .before .before .before .before .before .before .before .before .before .before .before .expand-job .ensures in
     let r = room-by _ (g .ranges) i hi (m .ensures) (g .levels) (cells-by g) (start-is g i) in
@@ -51,7 +49,7 @@ relax-words-requires c κs =
     moving-by _ (g .ranges) i hi (m .ensures) (g .levels) (cells-by g) (start-is g i) (record { shifts-long = omega (arith, n .shifts-long, m .kept); reaches-long = omega (arith, n .reaches-long, m .kept); times-long = omega (arith, n .times-long, m .kept) }) in
     record {
       moves = moves;
-      room = record { few = moves .most; inside = omega (arith, r, a .pre .1 .room, x .kept .long); small = omega (arith, r, g .allowed); parts = a .pre .1 .scratch };
+      room = record { few = moves .most; inside = omega (arith, r, a .pre .room, x .kept .long); small = omega (arith, r, g .allowed); parts = a .pre .scratch };
       lows = lows-by _ (g .ranges) i hi (m .ensures) (g .levels) (cells-by g) (start-is g i) x;
     }
 
@@ -73,13 +71,17 @@ same-length-5 c = search needs
 returns : tie.Need-returns
 returns c =
     let a = c .before .before .before .before .before .before .before .before .before .before .before .before .before .before .before .before .before .before .before .before .before .before .before .before .before .before .before .before .before .before .before in
-    let g = a .pre .0 .axes in
+    let g = a .pre .framed .axes in
     let x = c .before .before .before .before .before .before .before .before .before .before .before .before .before .before .before .before .before .before .before .before .before .before .expand-job .ensures in
     let m = c .before .before .before .before .before .before .before .before .before .before .before .before .before .before .before .before .find-moves in
-    let r = c .before .before .before .before .relax-words .ensures in (
-      filled-by _ (g .ranges) (a .args .i) (a .pre .1 .job) (m .ensures) (g .levels) (cells-by g) (start-is g (a .args .i)) x (a .pre .1 .next) (r .0),
-      record { shifts = record { long = omega (arith, m .kept) }; reaches = record { long = omega (arith, m .kept) }; times = record { long = omega (arith, m .kept) }; part = r .1 },
-    )
+    let r = c .before .before .before .before .relax-words .ensures in
+    record {
+      filled = filled-by _ (g .ranges) (a .args .i) (a .pre .job) (m .ensures) (g .levels) (cells-by g) (start-is g (a .args .i)) x (a .pre .next) (r .words);
+      shifts = record { long = omega (arith, m .kept) };
+      reaches = record { long = omega (arith, m .kept) };
+      times = record { long = omega (arith, m .kept) };
+      part = r .scratch;
+    }
 
 pub fill-job-spec : {M : Type 1} → statement M
 fill-job-spec =

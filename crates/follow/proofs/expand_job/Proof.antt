@@ -5,7 +5,7 @@ use denote.Ref.{now}
 use Rattle.store.specs.Figures.{sheetOf}
 use Rattle.table.specs.Table.{base}
 use Rattle.follow.specs.Follow.{Kept, Ahead}
-use Rattle.follow.proofs.Places.{base-level, base-within}
+use Rattle.table.proofs.Places.{base-level, base-within}
 use Rattle.follow.proofs.Keeping.{kept-none, kept-both, kept-wide, holds-kept, ahead-none, ahead-more, ahead-all}
 use Rattle.follow.proofs.expand_job.Statement.{statement}
 use Rattle.follow.proofs.expand_job.Tie as tie
@@ -22,18 +22,17 @@ loop-holds c = record { most = omega arith; ahead = ahead-none _ _ _; kept = kep
 expand-level-requires : tie.Need-expand-level-requires Inv-loop μ-loop
 expand-level-requires c κs =
     let p = c .before .before .before .before .pre in
-    let l = c .before .before .loop in (
-      p .0,
-      record {
-        room = omega (arith, p .1 .room, l .inv .kept .long);
-        job = p .1 .job;
-        level = omega (arith, c .before .loop-test .taken, p .0 .axes .levels);
-        next = holds-kept _ (omega arith) (l .inv .kept) (p .1 .next);
-      },
-    )
+    let l = c .before .before .loop in
+    record {
+      framed = p .framed;
+      room = omega (arith, p .room, l .inv .kept .long);
+      job = p .job;
+      level = omega (arith, c .before .loop-test .taken, p .framed .axes .levels);
+      next = holds-kept _ (omega arith) (l .inv .kept) (p .next);
+    }
 
 add-j : tie.Need-add-j Inv-loop μ-loop
-add-j c = omega (arith, c .before .before .before .before .loop-test .taken, c .before .before .before .before .before .before .before .pre .0 .axes .levels, c .before .before .before .before .before .before .before .pre .0 .axes .ranges .levels .high)
+add-j c = omega (arith, c .before .before .before .before .loop-test .taken, c .before .before .before .before .before .before .before .pre .framed .axes .levels, c .before .before .before .before .before .before .before .pre .framed .axes .ranges .levels .high)
 
 loop-less : tie.Need-loop-less Inv-loop μ-loop
 loop-less c = omega (arith, c .before .before .before .before .loop-test .taken)
@@ -48,7 +47,7 @@ loop-again c =
     record {
       most = omega (arith, h);
       ahead = ahead-more s (l .inv .ahead) w;
-      kept = kept-both (l .inv .kept) (kept-wide (omega (arith, base-level s (a .args .i) (l .j))) (base-within s (a .args .i) (l .j) (omega (arith, h, a .pre .0 .axes .levels))) (w .kept));
+      kept = kept-both (l .inv .kept) (kept-wide (omega (arith, base-level s (a .args .i) (l .j))) (base-within s (a .args .i) (l .j) (omega (arith, h, a .pre .framed .axes .levels))) (w .kept));
     }
 
 same-length : tie.Need-same-length Inv-loop μ-loop
@@ -57,7 +56,7 @@ same-length c = c .before .loop .inv .kept .long
 returns : tie.Need-returns Inv-loop μ-loop
 returns c =
     let l = c .before .loop in
-    record { ahead = ahead-all (l .inv .ahead) (omega (arith, c .loop-test .left, l .inv .most, c .before .before .before .pre .0 .axes .levels)); kept = l .inv .kept }
+    record { ahead = ahead-all (l .inv .ahead) (omega (arith, c .loop-test .left, l .inv .most, c .before .before .before .pre .framed .axes .levels)); kept = l .inv .kept }
 
 pub expand-job-spec : {M : Type 1} → statement M
 expand-job-spec =

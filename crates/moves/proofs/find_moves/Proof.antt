@@ -26,21 +26,20 @@ abbrev μ-loop : tie.MeasureT-loop
 μ-loop f store steady i shifts₀ reaches₀ times₀ l p₀ shifts reaches times p = f .head .levels - p
 
 loop-holds : tie.Need-loop-holds Inv-loop μ-loop
-loop-holds c = record { most = omega arith; shifts-long = refl; reaches-long = refl; times-long = refl; moves = rw (zero-mul _) (moves-none (c .before .before .before .pre .0 .axes) _ _ _ _) }
+loop-holds c = record { most = omega arith; shifts-long = refl; reaches-long = refl; times-long = refl; moves = rw (zero-mul _) (moves-none (c .before .before .before .pre .framed .axes) _ _ _ _) }
 
 find-moves-from-requires : tie.Need-find-moves-from-requires Inv-loop μ-loop
 find-moves-from-requires c κs =
     let a = c .before .before .before .before .before .before .before .before .pre in
     let l = c .before .before .before .before .loop in
-    let n = a .1 .room in (
-      a .0,
-      record {
-        job = a .1 .job;
-        left = omega (arith, c .before .before .before .loop-test .taken, a .0 .axes .levels);
-        room = record { shifts-long = omega (arith, l .inv .shifts-long, n .shifts-long); reaches-long = omega (arith, l .inv .reaches-long, n .reaches-long); times-long = omega (arith, l .inv .times-long, n .times-long) };
-        before = l .inv .moves;
-      },
-    )
+    let n = a .room in
+    record {
+      framed = a .framed;
+      job = a .job;
+      left = omega (arith, c .before .before .before .loop-test .taken, a .framed .axes .levels);
+      room = record { shifts-long = omega (arith, l .inv .shifts-long, n .shifts-long); reaches-long = omega (arith, l .inv .reaches-long, n .reaches-long); times-long = omega (arith, l .inv .times-long, n .times-long) };
+      before = l .inv .moves;
+    }
 
 add-p : tie.Need-add-p Inv-loop μ-loop
 add-p c = search needs
@@ -77,7 +76,7 @@ returns c =
     let a = c .before .before .before .before .before in
     let l = c .before .loop in
     let s = sheetOf (a .args .f .head) (now (a .args .store)) in
-    let e : l .p ≡ s .levels = omega (arith, c .loop-test .left, l .inv .most, a .pre .0 .axes .levels) in
+    let e : l .p ≡ s .levels = omega (arith, c .loop-test .left, l .inv .most, a .pre .framed .axes .levels) in
     subst (λ (p : ℕ). Moves s (a .args .i) (p * s .levels) (l .shifts) (l .reaches) (l .times)) e (l .inv .moves)
 
 pub find-moves-spec : {M : Type 1} → statement M

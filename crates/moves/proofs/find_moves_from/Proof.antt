@@ -27,17 +27,17 @@ abbrev μ-loop : tie.MeasureT-loop
 μ-loop f store steady i p shifts₀ reaches₀ times₀ l j₀ shifts reaches times j = f .head .levels - j
 
 loop-holds : tie.Need-loop-holds Inv-loop μ-loop
-loop-holds c = record { most = omega arith; shifts-long = refl; reaches-long = refl; times-long = refl; moves = rw (add-zero _) (c .before .before .before .pre .1 .before) }
+loop-holds c = record { most = omega arith; shifts-long = refl; reaches-long = refl; times-long = refl; moves = rw (add-zero _) (c .before .before .before .pre .before) }
 
 -- The level entered is one of the sheet's, and the move has its place.
 entered : (c : tie.In-loop Inv-loop μ-loop) → let a = c .before .before .before .before .before .args in c .before .loop .j < (sheetOf (a .f .head) (now (a .store))) .levels
-entered c = omega (arith, c .loop-test .taken, c .before .before .before .before .before .pre .0 .axes .levels)
+entered c = omega (arith, c .loop-test .taken, c .before .before .before .before .before .pre .framed .axes .levels)
 
 small : (c : tie.In-loop Inv-loop μ-loop) → c .before .before .before .before .before .args .p * c .before .before .before .before .before .args .f .head .levels + c .before .loop .j < changesMax
-small c = let a = c .before .before .before .before .before in number-small (a .pre .0 .axes) (a .args .i) (a .args .p) (c .before .loop .j) (a .pre .1 .left) (entered c)
+small c = let a = c .before .before .before .before .before in number-small (a .pre .framed .axes) (a .args .i) (a .args .p) (c .before .loop .j) (a .pre .left) (entered c)
 
 move-of-requires : tie.Need-move-of-requires Inv-loop μ-loop
-move-of-requires c κs = let a = c .before .before .before .before .before .pre in (a .0, record { job = a .1 .job; left = omega (arith, a .1 .left, entered c); entered = omega (arith, a .1 .left, entered c) })
+move-of-requires c κs = let a = c .before .before .before .before .before .pre in record { framed = a .framed; job = a .job; left = omega (arith, a .left, entered c); entered = omega (arith, a .left, entered c) }
 
 mul-u : tie.Need-mul-u Inv-loop μ-loop
 mul-u c = omega (arith, small (c .before))
@@ -49,28 +49,28 @@ cast-u : tie.Need-cast-u Inv-loop μ-loop
 cast-u c = omega (arith, small (c .before))
 
 cast-shifts : tie.Need-cast-shifts Inv-loop μ-loop
-cast-shifts c = let a = c .before .before .before .before .before .before .before in omega (arith, move-small (a .pre .0 .axes) _ _ _ _ (c .before .move-of .ensures))
+cast-shifts c = let a = c .before .before .before .before .before .before .before in omega (arith, move-small (a .pre .framed .axes) _ _ _ _ (c .before .move-of .ensures))
 
 mul-shifts : tie.Need-mul-shifts Inv-loop μ-loop
 mul-shifts c = omega (arith, small (c .before .before))
 
 slice-write-shifts : tie.Need-slice-write-shifts Inv-loop μ-loop
-slice-write-shifts c = omega (arith, small (c .before .before), c .before .before .before .loop .inv .shifts-long, c .before .before .before .before .before .before .before .pre .1 .room .shifts-long)
+slice-write-shifts c = omega (arith, small (c .before .before), c .before .before .before .loop .inv .shifts-long, c .before .before .before .before .before .before .before .pre .room .shifts-long)
 
 cast-reaches : tie.Need-cast-reaches Inv-loop μ-loop
-cast-reaches c = let a = c .before .before .before .before .before .before .before .before in omega (arith, move-small (a .pre .0 .axes) _ _ _ _ (c .before .before .move-of .ensures))
+cast-reaches c = let a = c .before .before .before .before .before .before .before .before in omega (arith, move-small (a .pre .framed .axes) _ _ _ _ (c .before .before .move-of .ensures))
 
 mul-reaches : tie.Need-mul-reaches Inv-loop μ-loop
 mul-reaches c = omega (arith, small (c .before .before .before))
 
 slice-write-reaches : tie.Need-slice-write-reaches Inv-loop μ-loop
-slice-write-reaches c = omega (arith, small (c .before .before .before), c .before .before .before .before .loop .inv .reaches-long, c .before .before .before .before .before .before .before .before .pre .1 .room .reaches-long)
+slice-write-reaches c = omega (arith, small (c .before .before .before), c .before .before .before .before .loop .inv .reaches-long, c .before .before .before .before .before .before .before .before .pre .room .reaches-long)
 
 mul-times : tie.Need-mul-times Inv-loop μ-loop
 mul-times c = omega (arith, small (c .before .before .before))
 
 slice-write-times : tie.Need-slice-write-times Inv-loop μ-loop
-slice-write-times c = omega (arith, small (c .before .before .before), c .before .before .before .before .loop .inv .times-long, c .before .before .before .before .before .before .before .before .pre .1 .room .times-long)
+slice-write-times c = omega (arith, small (c .before .before .before), c .before .before .before .before .loop .inv .times-long, c .before .before .before .before .before .before .before .before .pre .room .times-long)
 
 add-j : tie.Need-add-j Inv-loop μ-loop
 add-j c = search needs
@@ -83,13 +83,13 @@ loop-again c =
     let a = c .before .before .before .before .before .before .before .before in
     let l = c .before .before .before .before .loop in
     let m = c .before .before .move-of .result in
-    let n = a .pre .1 .room in
+    let n = a .pre .room in
     record {
       most = omega (arith, c .before .before .before .loop-test .taken);
       shifts-long = length-set (l .shifts) _ (m .shift) ∙ l .inv .shifts-long;
       reaches-long = length-set (l .reaches) _ (m .reach) ∙ l .inv .reaches-long;
       times-long = length-set (l .times) _ (m .time) ∙ l .inv .times-long;
-      moves = moves-more (a .pre .0 .axes) _ _ _ (a .pre .1 .left) (entered (c .before .before .before)) _ (c .before .before .move-of .ensures) (l .inv .moves) (record { shifts-long = omega (arith, l .inv .shifts-long, n .shifts-long); reaches-long = omega (arith, l .inv .reaches-long, n .reaches-long); times-long = omega (arith, l .inv .times-long, n .times-long) });
+      moves = moves-more (a .pre .framed .axes) _ _ _ (a .pre .left) (entered (c .before .before .before)) _ (c .before .before .move-of .ensures) (l .inv .moves) (record { shifts-long = omega (arith, l .inv .shifts-long, n .shifts-long); reaches-long = omega (arith, l .inv .reaches-long, n .reaches-long); times-long = omega (arith, l .inv .times-long, n .times-long) });
     }
 
 same-length : tie.Need-same-length Inv-loop μ-loop
@@ -106,7 +106,7 @@ returns c =
     let a = c .before .before .before .before .before in
     let l = c .before .loop in
     let s = sheetOf (a .args .f .head) (now (a .args .store)) in
-    let e : l .j ≡ s .levels = omega (arith, c .loop-test .left, l .inv .most, a .pre .0 .axes .levels) in
+    let e : l .j ≡ s .levels = omega (arith, c .loop-test .left, l .inv .most, a .pre .framed .axes .levels) in
     subst (λ (j : ℕ). Moves s (a .args .i) (a .args .p * s .levels + j) (l .shifts) (l .reaches) (l .times)) e (l .inv .moves)
 
 pub find-moves-from-spec : {M : Type 1} → statement M

@@ -23,9 +23,9 @@ fresh-requires c κs = search needs
 next-job-requires : tie.Need-next-job-requires
 next-job-requires c κs =
     let a = c .before .pre in
-    let ok = a .0 .axes .ranges in
+    let ok = a .framed .axes .ranges in
     let z = c .fresh .ensures in
-    rests (a .0 .stored) _ _ ok (omega (arith, ap (λ (q : State). q.done) z, a .1 .job, ok .jobs .high)) (omega (arith, ap (λ (q : State). q.level) z, a .1 .left, ok .levels .high)) (omega (arith, a .1 .entered, ok .levels .high)) (omega (arith, ap (λ (q : State). q.time) z)) (omega (arith, ap (λ (q : State). q.energy) z)) (omega (arith, ap (λ (q : State). q.temperature) z))
+    rests (a .framed .stored) _ _ ok (omega (arith, ap (λ (q : State). q.done) z, a .job, ok .jobs .high)) (omega (arith, ap (λ (q : State). q.level) z, a .left, ok .levels .high)) (omega (arith, a .entered, ok .levels .high)) (omega (arith, ap (λ (q : State). q.time) z)) (omega (arith, ap (λ (q : State). q.energy) z)) (omega (arith, ap (λ (q : State). q.temperature) z))
 
 -- The run after the job is the move, by the definitions.
 moves : (c : tie.After-next-job) → let a = c .before .before .args in
@@ -33,7 +33,7 @@ moves : (c : tie.After-next-job) → let a = c .before .before .args in
 moves c =
     let a = c .before .before in
     let s = sheetOf (a .args .f .head) (now (a .args .store)) in
-    c .next-job .ensures s (a .pre .0 .stored) ∙ ap (λ (q : State). step s q (a .args .j)) (c .before .fresh .ensures)
+    c .next-job .ensures s (a .pre .framed .stored) ∙ ap (λ (q : State). step s q (a .args .j)) (c .before .fresh .ensures)
 
 energy-is : (c : tie.After-next-job) → let a = c .before .before .args in
     c .next-job .result .energy ≡ (moved (sheetOf (a .f .head) (now (a .store))) (a .i) (a .p) (a .j)) .energy
@@ -44,25 +44,25 @@ time-is : (c : tie.After-next-job) → let a = c .before .before .args in
 time-is c = ap (λ (q : State). q.time) (moves c)
 
 small : (c : tie.After-next-job) → c .next-job .result .energy ≤ jobMost
-small c = omega (arith, energy-is c, moved-energy _ (c .before .before .pre .0 .axes .ranges) (c .before .before .args .i) (c .before .before .args .p) (c .before .before .args .j))
+small c = omega (arith, energy-is c, moved-energy _ (c .before .before .pre .framed .axes .ranges) (c .before .before .args .i) (c .before .before .args .p) (c .before .before .args .j))
 
 cast-time : tie.Need-cast-time
-cast-time c = omega (arith, time-is (c .before), moved-time _ (c .before .before .before .pre .0 .axes .ranges) (c .before .before .before .args .i) (c .before .before .before .args .p) (c .before .before .before .args .j))
+cast-time c = omega (arith, time-is (c .before), moved-time _ (c .before .before .before .pre .framed .axes .ranges) (c .before .before .before .args .i) (c .before .before .before .args .p) (c .before .before .before .args .j))
 
 cast-if1 : tie.Need-cast-if1
 cast-if1 c = search needs
 
 returns : tie.Need-returns
-returns c = move-none (c .before .before .before .before .before .before .pre .0 .axes) _ _ _ _ _ (energy-is (c .before .before .before .before)) (time-is (c .before .before .before .before)) (c .if1 .taken)
+returns c = move-none (c .before .before .before .before .before .before .pre .framed .axes) _ _ _ _ _ (energy-is (c .before .before .before .before)) (time-is (c .before .before .before .before)) (c .if1 .taken)
 
 cast-energy : tie.Need-cast-energy
 cast-energy c = search needs
 
 ceil-div-requires : tie.Need-ceil-div-requires
-ceil-div-requires c κs = let g = c .before .before .before .before .before .before .before .pre .0 .axes in (omega (arith, small (c .before .before .before .before .before)), omega (arith, g .energy-step, g .ranges .energyStep .low), omega (arith, g .energy-step, g .ranges .energyStep .high))
+ceil-div-requires c κs = let g = c .before .before .before .before .before .before .before .pre .framed .axes in record { value = omega (arith, small (c .before .before .before .before .before)); step = omega (arith, g .energy-step, g .ranges .energyStep .low); step-most = omega (arith, g .energy-step, g .ranges .energyStep .high) }
 
 lawful-rows-requires : tie.Need-lawful-rows-requires
-lawful-rows-requires c κs = counts (c .before .before .before .before .before .before .before .before .pre .0 .axes) _ _ (c .before .before .if1 .left) (c .ceil-div .ensures)
+lawful-rows-requires c κs = counts (c .before .before .before .before .before .before .before .before .pre .framed .axes) _ _ (c .before .before .if1 .left) (c .ceil-div .ensures)
 
 cast-shift : tie.Need-cast-shift
 cast-shift c = search needs
@@ -78,10 +78,10 @@ move-is : (c : tie.After-lawful-rows) → let a = c .before .before .before .bef
     m ≡ moveOf s (a .i) (a .p) (a .j)
 move-is c =
     let n = c .before .before .before .before .before .before .before in
-    move-some (c .before .before .before .before .before .before .before .before .before .pre .0 .axes) _ _ _ _ _ (energy-is n) (time-is n) (c .before .before .before .if1 .left) _ _ (c .before .ceil-div .ensures) (c .lawful-rows .ensures)
+    move-some (c .before .before .before .before .before .before .before .before .before .pre .framed .axes) _ _ _ _ _ (energy-is n) (time-is n) (c .before .before .before .if1 .left) _ _ (c .before .ceil-div .ensures) (c .lawful-rows .ensures)
 
 small-move : (c : tie.After-lawful-rows) → let n = c .before .before .before .before .before .before .before .before .before .args .f .«temperature_cells» in (c .before .ceil-div .result * n ≤ wordsMax) × (c .lawful-rows .result * n ≤ wordsMax)
-small-move c = let a = c .before .before .before .before .before .before .before .before .before in move-small (a .pre .0 .axes) (a .args .i) (a .args .p) (a .args .j) _ (move-is c)
+small-move c = let a = c .before .before .before .before .before .before .before .before .before in move-small (a .pre .framed .axes) (a .args .i) (a .args .p) (a .args .j) _ (move-is c)
 
 mul-shift : tie.Need-mul-shift
 mul-shift c = omega (arith, small-move (c .before))

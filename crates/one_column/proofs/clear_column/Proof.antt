@@ -42,7 +42,7 @@ loop-less : tie.Need-loop-less Inv-loop μ-loop
 loop-less c = search needs
 
 loop-again : tie.Need-loop-again Inv-loop μ-loop
-loop-again c = (omega arith, column-more (c .before .loop .inv .1) (c .before .before .pre .1) (omega (arith, c .before .before .pre, room c, c .before .loop .inv .1 .long)) _ refl)
+loop-again c = (omega arith, column-more (c .before .loop .inv .1) (c .before .before .pre .width-some) (omega (arith, c .before .before .pre, room c, c .before .loop .inv .1 .long)) _ refl)
 
 same-length : tie.Need-same-length Inv-loop μ-loop
 same-length c = search needs

@@ -63,7 +63,7 @@ loop-again c =
     let l = c .before .before .before .loop in
     let fits : a .args .at + l .a * a .args .width < length (l .table) = omega (arith, a .pre, room (c .before .before), l .inv .1 .long) in
     let was = column-behind (l .inv .1) (a .args .rows) (a .args .from + l .a * a .args .width) (l .inv .0) (omega (arith, a .pre)) in
-    (omega arith, column-more (l .inv .1) (a .pre .1) fits _ (c .cap .ensures ∙ ap (λ (w : ℕ). near w) was))
+    (omega arith, column-more (l .inv .1) (a .pre .width-some) fits _ (c .cap .ensures ∙ ap (λ (w : ℕ). near w) was))
 
 same-length : tie.Need-same-length Inv-loop μ-loop
 same-length c = search needs

@@ -9,13 +9,13 @@ use Rattle.one_column.proofs.lay_column.Tie as tie
 
 -- Where the first row stands.
 first : (c : tie.After-slice-known) → Room 0 (c .before .args .rows) (c .before .args .width)
-first c = row-room 0 _ _ (omega (arith, c .before .pre))
+first c = row-room 0 _ _ (c .before .pre .rows-some)
 
 add-gather-column : tie.Need-add-gather-column
 add-gather-column c = search (needs, first (c .before .before))
 
 gather-column-requires : tie.Need-gather-column-requires
-gather-column-requires c κs = let a = c .before .before .before in let z = first (c .before .before) in (a .pre .0, a .pre .1, omega (arith, a .pre), omega (arith, a .pre, z, c .before .if1 .taken))
+gather-column-requires c κs = let a = c .before .before .before in let z = first (c .before .before) in record { rows-some = a .pre .rows-some; width-some = a .pre .width-some; behind = omega (arith, a .pre .behind); room = omega (arith, a .pre .room, z, c .before .if1 .taken) }
 
 clear-column-requires : tie.Need-clear-column-requires
 clear-column-requires c κs = search needs

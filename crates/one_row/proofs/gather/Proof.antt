@@ -33,11 +33,11 @@ cell-is c =
     let a = c .before .before .before .before .before .before in
     let l = c .before .before .before .before .loop in
     let h = c .before .before .before .loop-test .taken in
-    c .named .ensures ∙ part-at (l .table) (a .args .map) (a .args .width) (l .k) (omega (arith, h, a .pre .3 .most))
-    ∙ spans-behind (l .inv .1) (a .args .map + l .k) (omega (arith, a .pre .0))
+    c .named .ensures ∙ part-at (l .table) (a .args .map) (a .args .width) (l .k) (omega (arith, h, a .pre .leading .most))
+    ∙ spans-behind (l .inv .1) (a .args .map + l .k) (omega (arith, a .pre .map-behind))
 
 cell-small : (c : tie.After-named Inv-loop μ-loop) → c .named .result < c .before .before .before .before .before .before .args .width
-cell-small c = omega (arith, cell-is c, c .before .before .before .before .before .before .pre .3 .within (c .before .before .before .before .loop .k) (c .before .before .before .loop-test .taken))
+cell-small c = omega (arith, cell-is c, c .before .before .before .before .before .before .pre .leading .within (c .before .before .before .before .loop .k) (c .before .before .before .loop-test .taken))
 
 loop-holds : tie.Need-loop-holds Inv-loop μ-loop
 loop-holds c = (omega arith, spans-none _ _ _)
@@ -73,7 +73,7 @@ pick-requires : tie.Need-pick-requires Inv-loop μ-loop
 pick-requires c κs =
     let a = c .before .before .before .before .before .before .before .before in
     let l = c .before .before .before .before .before .before .loop in
-    let long = part-long (l .table) (a .args .row) (a .args .width) (omega (arith, a .pre .2, l .inv .1 .long)) in
+    let long = part-long (l .table) (a .args .row) (a .args .width) (omega (arith, a .pre .room, l .inv .1 .long)) in
     omega (arith, cell-small (c .before .before), long)
 
 mul-put : tie.Need-mul-put Inv-loop μ-loop
@@ -105,11 +105,11 @@ loop-again c =
     let n = c .before .before .before .before .before .before .before in
     let q = n .named .result in
     let fits : a .args .at + a .args .width ≤ length (l .table) = omega (arith, a .pre, l .inv .1 .long) in
-    let new = part-set (l .table) (a .args .at) (a .args .width) fits (l .k) _ (omega (arith, h, a .pre .3 .most)) _ (c .before .before .put .ensures) in
+    let new = part-set (l .table) (a .args .at) (a .args .width) fits (l .k) _ (omega (arith, h, a .pre .leading .most)) _ (c .before .before .put .ensures) in
     let word =
     c .before .before .before .before .pick .ensures ∙ ap (λ (w : ℕ). near w) (part-at (l .table) (a .args .row) (a .args .width) q (cell-small n) ∙ spans-behind (l .inv .1) (a .args .row + q) (omega (arith, a .pre)))
     ∙ ap (λ (y : ℕ). near (getD (now (a .args .table)) (a .args .row + y) 0)) (cell-is n) in
-    (omega arith, rw new (spans-more (l .inv .1) h (omega (arith, a .pre, a .pre .3 .most)) _ word))
+    (omega arith, rw new (spans-more (l .inv .1) h (omega (arith, a .pre, a .pre .leading .most)) _ word))
 
 same-length : tie.Need-same-length Inv-loop μ-loop
 same-length c = search needs

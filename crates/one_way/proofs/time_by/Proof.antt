@@ -10,7 +10,7 @@ slot-requires : tie.Need-slot-requires
 slot-requires c κs = search needs
 
 here : (c : tie.After-slot) → let a = c .before .before .before .before .args in Place (a .table .now) (a .froms .now) (a .times .now) (c .slot .result) (a .q)
-here c = let a = c .before .before .before .before in place (a .pre .0) (a .pre .1) (c .slot .result) (a .args .k) (c .slot .ensures)
+here c = let a = c .before .before .before .before in place (a .pre .leads) (a .pre .some) (c .slot .result) (a .args .k) (c .slot .ensures)
 
 mul-result : tie.Need-mul-result
 mul-result c = omega (arith, here c .few)

@@ -17,13 +17,18 @@ use Rattle.open_ways.proofs.find_ways.Tie as tie
 
 abbrev Inv-loop : tie.InvT-loop
 Inv-loop at levels cells shifts reaches times p y end froms₀ costs₀ count₀ to₀ j₀ froms costs count to j =
-    (j ≤ levels) × (length froms ≡ length froms₀) × (length costs ≡ length costs₀) × Open shifts reaches times levels cells at p j y end count to froms costs
+    record {
+      most : j ≤ levels;
+      froms-long : length froms ≡ length froms₀;
+      costs-long : length costs ≡ length costs₀;
+      ways : Open shifts reaches times levels cells at p j y end count to froms costs;
+    }
 
 abbrev μ-loop : tie.MeasureT-loop
 μ-loop at levels cells shifts reaches times p y end froms₀ costs₀ count₀ to₀ j₀ froms costs count to j = levels - j
 
 loop-holds : tie.Need-loop-holds Inv-loop μ-loop
-loop-holds c = (omega arith, refl, refl, open-none _ _ _ _ _ _ _ _ _ _ _ (c .before .before .before .before .before .pre .1 .0 .2))
+loop-holds c = record { most = omega arith; froms-long = refl; costs-long = refl; ways = open-none _ _ _ _ _ _ _ _ _ _ _ (c .before .before .before .before .before .pre .some) }
 
 -- The move's number is small, and there is room for its way.
 few : (c : tie.In-loop Inv-loop μ-loop) → let a = c .before .before .before .before .before .before .before .args in
@@ -31,7 +36,7 @@ few : (c : tie.In-loop Inv-loop μ-loop) → let a = c .before .before .before .
 few c =
     let a = c .before .before .before .before .before .before .before in
     let l = c .before .loop in
-    (move-few (a .args .levels) (a .args .p) (l .j) (a .pre .0 .most) (a .pre .1 .0 .1) (c .loop-test .taken), omega (arith, l .inv .3 .few, c .loop-test .taken, a .pre .0 .most))
+    (move-few (a .args .levels) (a .args .p) (l .j) (a .pre .moves .most) (a .pre .level) (c .loop-test .taken), omega (arith, l .inv .ways .few, c .loop-test .taken, a .pre .moves .most))
 
 mul-u : tie.Need-mul-u Inv-loop μ-loop
 mul-u c = omega (arith, few c)
@@ -43,7 +48,7 @@ mul-reach : tie.Need-mul-reach Inv-loop μ-loop
 mul-reach c = omega (arith, few c)
 
 shared-slice-read-reach : tie.Need-shared-slice-read-reach Inv-loop μ-loop
-shared-slice-read-reach c = omega (arith, few (c .before), c .before .before .before .before .before .before .before .before .pre .0 .reaches-long)
+shared-slice-read-reach c = omega (arith, few (c .before), c .before .before .before .before .before .before .before .before .pre .moves .reaches-long)
 
 cast-reach : tie.Need-cast-reach Inv-loop μ-loop
 cast-reach c = fits-widen tt (c .shared-slice-known4 .given _)
@@ -54,7 +59,7 @@ leads : (c : tie.In-loop Inv-loop μ-loop) → let a = c .before .before .before
 leads c =
     let a = c .before .before .before .before .before .before .before in
     let j = c .before .loop .j in
-    (move-within (a .pre .0) (a .args .p) j (a .pre .1 .0 .1) (c .loop-test .taken), omega (arith, level-end j (a .args .levels) (a .args .cells) (c .loop-test .taken), a .pre .1 .0 .0))
+    (move-within (a .pre .moves) (a .args .p) j (a .pre .level) (c .loop-test .taken), omega (arith, level-end j (a .args .levels) (a .args .cells) (c .loop-test .taken), a .pre .small))
 
 mul-froms : tie.Need-mul-froms Inv-loop μ-loop
 mul-froms c = omega (arith, leads (c .before .before))
@@ -66,7 +71,7 @@ mul-froms-2 : tie.Need-mul-froms-2 Inv-loop μ-loop
 mul-froms-2 c = omega (arith, few (c .before .before))
 
 shared-slice-read-froms : tie.Need-shared-slice-read-froms Inv-loop μ-loop
-shared-slice-read-froms c = omega (arith, few (c .before .before .before), c .before .before .before .before .before .before .before .before .before .before .pre .0 .shifts-long)
+shared-slice-read-froms c = omega (arith, few (c .before .before .before), c .before .before .before .before .before .before .before .before .before .before .pre .moves .shifts-long)
 
 cast-froms : tie.Need-cast-froms Inv-loop μ-loop
 cast-froms c = fits-widen tt (c .shared-slice-known5 .given _)
@@ -81,19 +86,19 @@ mul-froms-3 : tie.Need-mul-froms-3 Inv-loop μ-loop
 mul-froms-3 c = omega (arith, few (c .before .before .before))
 
 slice-write-froms : tie.Need-slice-write-froms Inv-loop μ-loop
-slice-write-froms c = let t = c .before .before .before in omega (arith, few t, t .before .loop .inv .1, t .before .before .before .before .before .before .before .pre .1 .1)
+slice-write-froms c = let t = c .before .before .before in omega (arith, few t, t .before .loop .inv .froms-long, t .before .before .before .before .before .before .before .pre .froms-long)
 
 mul-costs : tie.Need-mul-costs Inv-loop μ-loop
 mul-costs c = omega (arith, few (c .before .before .before))
 
 shared-slice-read-costs : tie.Need-shared-slice-read-costs Inv-loop μ-loop
-shared-slice-read-costs c = let t = c .before .before .before .before in omega (arith, few t, t .before .before .before .before .before .before .before .pre .0 .times-long)
+shared-slice-read-costs c = let t = c .before .before .before .before in omega (arith, few t, t .before .before .before .before .before .before .before .pre .moves .times-long)
 
 mul-costs-2 : tie.Need-mul-costs-2 Inv-loop μ-loop
 mul-costs-2 c = omega (arith, few (c .before .before .before .before))
 
 slice-write-costs : tie.Need-slice-write-costs Inv-loop μ-loop
-slice-write-costs c = let t = c .before .before .before .before in omega (arith, few t, t .before .loop .inv .2, t .before .before .before .before .before .before .before .pre .1 .1)
+slice-write-costs c = let t = c .before .before .before .before in omega (arith, few t, t .before .loop .inv .costs-long, t .before .before .before .before .before .before .before .pre .costs-long)
 
 add-count : tie.Need-add-count Inv-loop μ-loop
 add-count c = omega (arith, few (c .before .before .before .before))
@@ -102,7 +107,7 @@ fewest-requires : tie.Need-fewest-requires Inv-loop μ-loop
 fewest-requires c κs = search needs
 
 add-j : tie.Need-add-j Inv-loop μ-loop
-add-j c = omega (arith, c .before .before .loop-test .taken, c .before .before .before .before .before .before .before .before .before .pre .0 .most)
+add-j c = omega (arith, c .before .before .loop-test .taken, c .before .before .before .before .before .before .before .before .before .pre .moves .most)
 
 loop-less : tie.Need-loop-less Inv-loop μ-loop
 loop-less c = omega (arith, c .before .before .loop-test .taken)
@@ -113,32 +118,32 @@ loop-again c =
     let a = t .before .before .before .before .before .before .before in
     let l = t .before .loop in
     let u = a .args .p * a .args .levels + l .j in
-    let room : (l .count < length (l .froms)) × (l .count < length (l .costs)) = (omega (arith, few t, l .inv .1, a .pre .1 .1), omega (arith, few t, l .inv .2, a .pre .1 .1)) in
+    let room : (l .count < length (l .froms)) × (l .count < length (l .costs)) = (omega (arith, few t, l .inv .froms-long, a .pre .froms-long), omega (arith, few t, l .inv .costs-long, a .pre .costs-long)) in
     ⊎-elim
     (λ w.
-    rw (w .4, w .5, w .6, w .7, w .3 .ensures) (
-      omega (arith, t .loop-test .taken),
-      length-set (l .froms) (l .count) (a .args .at + l .j * a .args .cells + (a .args .y + getD (a .args .shifts .now) u 0)) ∙ l .inv .1,
-      length-set (l .costs) (l .count) (getD (a .args .times .now) u 0) ∙ l .inv .2,
-      open-more _ _ _ _ _ _ _ _ _ (a .pre .0) (a .pre .1 .0 .1) (l .j) (l .count) (l .to) (l .froms) (l .costs) (l .inv .3) (t .loop-test .taken) (room .0) (room .1) (w .0 .taken),
-    ))
+    rw (w .4, w .5, w .6, w .7, w .3 .ensures) (record {
+      most = omega (arith, t .loop-test .taken);
+      froms-long = length-set (l .froms) (l .count) (a .args .at + l .j * a .args .cells + (a .args .y + getD (a .args .shifts .now) u 0)) ∙ l .inv .froms-long;
+      costs-long = length-set (l .costs) (l .count) (getD (a .args .times .now) u 0) ∙ l .inv .costs-long;
+      ways = open-more _ _ _ _ _ _ _ _ _ (a .pre .moves) (a .pre .level) (l .j) (l .count) (l .to) (l .froms) (l .costs) (l .inv .ways) (t .loop-test .taken) (room .0) (room .1) (w .0 .taken);
+    }))
     (λ w.
-    rw (w .1, w .2, w .3, w .4) (
-      omega (arith, t .loop-test .taken),
-      l .inv .1,
-      l .inv .2,
-      open-less _ _ _ _ _ _ _ _ _ (a .pre .0) (a .pre .1 .0 .1) (l .j) (l .count) (l .to) (l .froms) (l .costs) (l .inv .3) (t .loop-test .taken) (w .0 .left),
-    ))
+    rw (w .1, w .2, w .3, w .4) (record {
+      most = omega (arith, t .loop-test .taken);
+      froms-long = l .inv .froms-long;
+      costs-long = l .inv .costs-long;
+      ways = open-less _ _ _ _ _ _ _ _ _ (a .pre .moves) (a .pre .level) (l .j) (l .count) (l .to) (l .froms) (l .costs) (l .inv .ways) (t .loop-test .taken) (w .0 .left);
+    }))
     (c .if1 .came)
 
 same-length : tie.Need-same-length Inv-loop μ-loop
-same-length c = c .before .loop .inv .1
+same-length c = c .before .loop .inv .froms-long
 
 same-length-2 : tie.Need-same-length-2 Inv-loop μ-loop
-same-length-2 c = c .before .loop .inv .2
+same-length-2 c = c .before .loop .inv .costs-long
 
 returns : tie.Need-returns Inv-loop μ-loop
-returns c = let l = c .before .loop in (rw (le-antisymm (l .inv .0) (c .loop-test .left)) at (l .inv .3), (l .inv .1, l .inv .2))
+returns c = let l = c .before .loop in record { ways = rw (le-antisymm (l .inv .most) (c .loop-test .left)) at (l .inv .ways); froms-long = l .inv .froms-long; costs-long = l .inv .costs-long }
 
 pub find-ways-spec : {M : Type 1} → statement M
 find-ways-spec = tie.close (tie.spec Inv-loop μ-loop loop-holds mul-u add-u mul-reach shared-slice-read-reach cast-reach mul-froms add-froms mul-froms-2 shared-slice-read-froms cast-froms add-froms-2 add-froms-3 mul-froms-3 slice-write-froms mul-costs shared-slice-read-costs mul-costs-2 slice-write-costs add-count fewest-requires add-j loop-less loop-again same-length same-length-2 returns)

@@ -22,33 +22,33 @@ loop-holds c = (omega arith, levels-none _ _ _ _ _ _ _ (λ p y h l g. absurd (om
 
 -- The words of the turn's level are in the table.
 inner : (c : tie.In-loop Inv-loop μ-loop) → let a = c .before .before .before .before .args in a .at + c .before .loop .p * a .cells + a .cells ≤ length (a .table .now)
-inner c = let a = c .before .before .before .before in omega (arith, level-end (c .before .loop .p) (a .args .levels) (a .args .cells) (c .loop-test .taken), a .pre .0 .inside)
+inner c = let a = c .before .before .before .before in omega (arith, level-end (c .before .loop .p) (a .args .levels) (a .args .cells) (c .loop-test .taken), a .pre .room .inside)
 
 mul-copy : tie.Need-mul-copy Inv-loop μ-loop
-mul-copy c = omega (arith, inner (c .before), c .before .before .before .before .before .pre .0 .small)
+mul-copy c = omega (arith, inner (c .before), c .before .before .before .before .before .pre .room .small)
 
 add-copy : tie.Need-add-copy Inv-loop μ-loop
-add-copy c = omega (arith, inner (c .before), c .before .before .before .before .before .pre .0 .small)
+add-copy c = omega (arith, inner (c .before), c .before .before .before .before .before .pre .room .small)
 
 add-copy-2 : tie.Need-add-copy-2 Inv-loop μ-loop
-add-copy-2 c = let a = c .before .before .before .before .before in omega (arith, inner (c .before), a .pre .0 .small, a .pre .0 .inside, a .pre .1 .within)
+add-copy-2 c = let a = c .before .before .before .before .before in omega (arith, inner (c .before), a .pre .room .small, a .pre .room .inside, a .pre .words .within)
 
 mul-copy-2 : tie.Need-mul-copy-2 Inv-loop μ-loop
-mul-copy-2 c = omega (arith, c .before .loop-test .taken, c .before .before .before .before .before .pre .0 .few)
+mul-copy-2 c = omega (arith, c .before .loop-test .taken, c .before .before .before .before .before .pre .room .few)
 
 copy-requires : tie.Need-copy-requires Inv-loop μ-loop
 copy-requires c κs =
     let a = c .before .before .before .before .before in
-    (omega (arith, inner (c .before), a .pre .1 .within, c .before .before .loop .inv .1 .long), omega (arith, c .before .loop-test .taken, a .pre .0 .few, a .pre .0 .parts, a .pre .1 .fits))
+    record { room = omega (arith, inner (c .before), a .pre .words .within, c .before .before .loop .inv .1 .long); source = omega (arith, c .before .loop-test .taken, a .pre .room .few, a .pre .room .parts, a .pre .words .fits) }
 
 add-p : tie.Need-add-p Inv-loop μ-loop
-add-p c = omega (arith, c .before .before .before .before .loop-test .taken, c .before .before .before .before .before .before .before .before .pre .0 .few)
+add-p c = omega (arith, c .before .before .before .before .loop-test .taken, c .before .before .before .before .before .before .before .before .pre .room .few)
 
 loop-less : tie.Need-loop-less Inv-loop μ-loop
 loop-less c = omega (arith, c .before .before .before .before .loop-test .taken)
 
 loop-again : tie.Need-loop-again Inv-loop μ-loop
-loop-again c = (omega (arith, c .before .before .before .before .loop-test .taken), levels-more (c .before .before .before .before .before .before .before .before .pre .1 .within) (c .before .before .before .before .before .loop .inv .1) (c .before .before .copy .ensures) (λ y. refl))
+loop-again c = (omega (arith, c .before .before .before .before .loop-test .taken), levels-more (c .before .before .before .before .before .before .before .before .pre .words .within) (c .before .before .before .before .before .loop .inv .1) (c .before .before .copy .ensures) (λ y. refl))
 
 same-length : tie.Need-same-length Inv-loop μ-loop
 same-length c = c .before .loop .inv .1 .long

@@ -23,16 +23,16 @@ loop-holds c = (omega arith, parted-none _ _ _)
 relax-level-requires : tie.Need-relax-level-requires Inv-loop μ-loop
 relax-level-requires c κs =
     let a = c .before .before .before .before .before .before .before .before .pre in
-    (record { moves = a .0 .moves; room = room-kept refl (c .before .before .loop .inv .1 .long) (a .0 .room); lows = a .0 .lows }, a .1, c .before .loop-test .taken)
+    record { job = record { moves = a .job .moves; room = room-kept refl (c .before .before .loop .inv .1 .long) (a .job .room); lows = a .job .lows }; words = a .words; level = c .before .loop-test .taken }
 
 add-p : tie.Need-add-p Inv-loop μ-loop
-add-p c = omega (arith, c .before .before .before .before .loop-test .taken, c .before .before .before .before .before .before .before .before .before .before .before .pre .0 .room .few)
+add-p c = omega (arith, c .before .before .before .before .loop-test .taken, c .before .before .before .before .before .before .before .before .before .before .before .pre .job .room .few)
 
 loop-less : tie.Need-loop-less Inv-loop μ-loop
 loop-less c = omega (arith, c .before .before .before .before .loop-test .taken)
 
 loop-again : tie.Need-loop-again Inv-loop μ-loop
-loop-again c = (omega (arith, c .before .before .before .before .loop-test .taken), parted-more (c .before .before .before .before .before .before .before .before .before .before .before .pre .1 .fits) (c .before .before .before .before .before .loop .inv .1) (c .before .before .relax-level .ensures))
+loop-again c = (omega (arith, c .before .before .before .before .loop-test .taken), parted-more (c .before .before .before .before .before .before .before .before .before .before .before .pre .words .fits) (c .before .before .before .before .before .loop .inv .1) (c .before .before .relax-level .ensures))
 
 same-length : tie.Need-same-length Inv-loop μ-loop
 same-length c = c .before .loop .inv .1 .long

@@ -15,18 +15,20 @@ use Rattle.relax.proofs.relax_words.Tie as tie
 
 abbrev Inv-loop : tie.InvT-loop
 Inv-loop table₀ part₀ at levels cells shifts reaches times x₀ table part x =
-    (x ≤ cells)
-    × (length part ≡ length part₀)
-    × Levels table₀ table at levels cells 0 x (λ (p y : ℕ). settled (relaxedAt shifts reaches times table₀ levels cells at p levels y))
+    record {
+      most : x ≤ cells;
+      part-long : length part ≡ length part₀;
+      words : Levels table₀ table at levels cells 0 x (λ (p y : ℕ). settled (relaxedAt shifts reaches times table₀ levels cells at p levels y));
+    }
 
 abbrev μ-loop : tie.MeasureT-loop
 μ-loop table₀ part₀ at levels cells shifts reaches times x₀ table part x = cells - x
 
 loop-holds : tie.Need-loop-holds Inv-loop μ-loop
-loop-holds c = (omega arith, refl, levels-none _ _ _ _ _ _ _ (λ p y h l g. absurd (omega arith)))
+loop-holds c = record { most = omega arith; part-long = refl; words = levels-none _ _ _ _ _ _ _ (λ p y h l g. absurd (omega arith)) }
 
 sub-fewest : tie.Need-sub-fewest Inv-loop μ-loop
-sub-fewest c = c .before .loop .inv .0
+sub-fewest c = c .before .loop .inv .most
 
 fewest-requires : tie.Need-fewest-requires Inv-loop μ-loop
 fewest-requires c κs = search needs
@@ -42,13 +44,13 @@ relax-part-requires : tie.Need-relax-part-requires Inv-loop μ-loop
 relax-part-requires c κs =
     let a = c .before .before .before .before .before .before .before .before .before .before .pre in
     let l = c .before .before .before .before .loop .inv in
-    (record { moves = a .moves; room = room-kept (l .2 .long) (l .1) (a .room); lows = lows-kept (l .2) (a .lows) }, run-some (c .before .before) .1)
+    record { job = record { moves = a .moves; room = room-kept (l .words .long) (l .part-long) (a .room); lows = lows-kept (l .words) (a .lows) }; words = run-some (c .before .before) .1 }
 
 copy-part-requires : tie.Need-copy-part-requires Inv-loop μ-loop
 copy-part-requires c κs =
     let a = c .before .before .before .before .before .before .before .before .before .before .before .before .before .before .before .pre in
     let l = c .before .before .before .before .before .before .before .before .before .loop .inv in
-    (room-kept (l .2 .long) (c .before .before .before .before .relax-part .ensures .long ∙ l .1) (a .room), run-some (c .before .before .before .before .before .before .before) .1)
+    record { room = room-kept (l .words .long) (c .before .before .before .before .relax-part .ensures .long ∙ l .part-long) (a .room); words = run-some (c .before .before .before .before .before .before .before) .1 }
 
 add-x : tie.Need-add-x Inv-loop μ-loop
 add-x c = omega (arith, run-some (c .before .before .before .before .before .before .before .before .before .before) .1 .within, c .before .before .before .before .before .before .before .before .before .before .before .before .before .before .before .before .before .before .fits)
@@ -61,18 +63,18 @@ loop-again c =
     let l = c .before .before .before .before .before .before .before .before .before .before .before .before .loop .inv in
     let within = run-some (c .before .before .before .before .before .before .before .before .before .before) .1 .within in
     let parted = c .before .before .before .before .before .before .before .relax-part .ensures in
-    (within, parted .long ∙ l .1, levels-on (l .2) (c .before .before .before .before .before .before .before .before .before .before .before .before .before .before .before .before .before .before .pre .moves) _ _ _ _ within (λ p y. refl) parted (c .before .before .copy-part .ensures))
+    record { most = within; part-long = parted .long ∙ l .part-long; words = levels-on (l .words) (c .before .before .before .before .before .before .before .before .before .before .before .before .before .before .before .before .before .before .pre .moves) _ _ _ _ within (λ p y. refl) parted (c .before .before .copy-part .ensures) }
 
 same-length : tie.Need-same-length Inv-loop μ-loop
-same-length c = c .before .loop .inv .2 .long
+same-length c = c .before .loop .inv .words .long
 
 same-length-2 : tie.Need-same-length-2 Inv-loop μ-loop
-same-length-2 c = c .before .loop .inv .1
+same-length-2 c = c .before .loop .inv .part-long
 
 returns : tie.Need-returns Inv-loop μ-loop
 returns c =
     let l = c .before .loop .inv in
-    (rw (le-antisymm (l .0) (c .loop-test .left)) at (l .2), record { long = l .1 })
+    record { words = rw (le-antisymm (l .most) (c .loop-test .left)) at (l .words); scratch = record { long = l .part-long } }
 
 pub relax-words-spec : {M : Type 1} → statement M
 relax-words-spec = tie.close (tie.spec Inv-loop μ-loop loop-holds sub-fewest fewest-requires relax-part-requires copy-part-requires add-x loop-less loop-again same-length same-length-2 returns)

@@ -2,7 +2,6 @@
 use mathlib.Core.Path.{_≡_, refl}
 use Prim.Native.Nat.{_-_}
 use native.Mathlib.Omega.{arith}
-use lib.ListN.{length}
 use denote.Ref.{now}
 use Rattle.frame.specs.Sheet.{Sheet}
 use Rattle.frame.specs.Plan.{least}
@@ -19,20 +18,19 @@ abbrev sheet : tie.Start → Sheet
 sheet c = sheetOf (c .args .f .head) (now (c .args .store))
 
 fill-requires : tie.Need-fill-requires
-fill-requires c κs = let a = c .before .before .before .pre in (a .0, a .1 .table)
+fill-requires c κs = let a = c .before .before .before .pre in record { framed = a .framed; room = a .lent .table }
 
 rest-of-requires : tie.Need-rest-of-requires
 rest-of-requires c κs = λ d.
     let a = c .before .before .before .before .before .before .before .pre in
-    let q = start-looks (a .0 .axes) _ (a .1 .within) d in
-    (q .0, omega (arith, q .1, a .0 .axes .allowed), omega (arith, q .1, a .1 .table, c .before .before .before .fill .kept .1 .1 .1 .0))
+    start-looks (a .framed .axes) _ (a .lent .within) (omega (arith, a .lent .table, c .before .before .before .fill .kept .1 .1 .1 .0)) d
 
 -- What was looked up is the start's word.
 looked : (c : tie.After-rest-of) → let a = c .before .before .before .before .before .before .before .before in
     c .rest-of .result ≡ least (sheet a) ((sheet a) .jobs - a .args .start .done) (stateOf (a .args .start))
 looked c =
     let a = c .before .before .before .before .before .before .before .before in
-    start-rest (a .pre .0 .axes) _ (a .pre .1 .within) (now (a .args .table)) _ _ (a .pre .1 .table) (c .before .before .before .before .fill .ensures) (c .rest-of .ensures)
+    start-rest (a .pre .framed .axes) _ (a .pre .lent .within) (now (a .args .table)) _ _ (a .pre .lent .table) (c .before .before .before .before .fill .ensures) (c .rest-of .ensures)
 
 cast-if1 : tie.Need-cast-if1
 cast-if1 c = search needs
@@ -40,7 +38,7 @@ cast-if1 c = search needs
 add-if1 : tie.Need-add-if1
 add-if1 c =
     let a = c .before .before .before .before .before .before .before .before .before .before in
-    omega (arith, looked (c .before .before), least-bounded (sheet a) (a .pre .0 .axes .ranges) ((sheet a) .jobs - a .args .start .done) (stateOf (a .args .start)), a .pre .1 .within .time, a .pre .0 .axes .ranges .deadline)
+    omega (arith, looked (c .before .before), least-bounded (sheet a) (a .pre .framed .axes .ranges) ((sheet a) .jobs - a .args .start .done) (stateOf (a .args .start)), a .pre .lent .within .time, a .pre .framed .axes .ranges .deadline)
 
 same-length : tie.Need-same-length
 same-length c = search needs
@@ -53,15 +51,14 @@ walk-requires : tie.Need-walk-requires
 unfolding sheetOf
 walk-requires c κs =
     let a = c .before .before .before .before .before .before .before .before .before .before .before .before .before in
-    let w = a .pre .1 in (
-      a .pre .0,
-      record {
-        room = omega (arith, w .table, c .before .before .before .before .before .before .before .before .before .fill .kept .1 .1 .1 .0);
-        words = λ i. rw (c .before .before .before .before .before .before .before .before .before .fill .ensures) (filled-words (sheet a) (now (a .args .table)) i (w .table));
-        starts = starts _ (a .pre .0 .axes .ranges) (w .within) (looked (c .before .before .before .before .before)) (omega (arith, c .before .before .if1 .left));
-        long = w .part;
-      },
-    )
+    let w = a .pre .lent in
+    record {
+      framed = a .pre .framed;
+      room = omega (arith, w .table, c .before .before .before .before .before .before .before .before .before .fill .kept .1 .1 .1 .0);
+      words = λ i. rw (c .before .before .before .before .before .before .before .before .before .fill .ensures) (filled-words (sheet a) (now (a .args .table)) i (w .table));
+      starts = starts _ (a .pre .framed .axes .ranges) (w .within) (looked (c .before .before .before .before .before)) (omega (arith, c .before .before .if1 .left));
+      long = w .part;
+    }
 
 same-length-2 : tie.Need-same-length-2
 same-length-2 c = search needs

@@ -21,7 +21,7 @@ sheet c = sheetOf (c .args .f .head) (now (c .args .store))
 framed : (c : tie.After-steady-states) → let a = c .before .before .before in Framed (sheet a) (a .args .f) (now (a .args .store)) (c .steady-states .result .levels)
 framed c =
     let a = c .before .before .before in
-    record { axes = a .pre .0; stored = rw (ap (λ (q : Steady). q .levels) (c .steady-states .ensures)) (read-stored (a .args .f .head) (now (a .args .store))) }
+    record { axes = a .pre .axes; stored = rw (ap (λ (q : Steady). q .levels) (c .steady-states .ensures)) (read-stored (a .args .f .head) (now (a .args .store))) }
 
 -- The exact run of the jobs that are left may start here.
 begun : (c : tie.After-steady-states) → let a = c .before .before .before in
@@ -29,8 +29,8 @@ begun : (c : tie.After-steady-states) → let a = c .before .before .before in
 unfolding sheetOf
 begun c =
     let a = c .before .before .before in
-    let w = a .pre .1 .within in
-    let ok = a .pre .0 .ranges in
+    let w = a .pre .lent .within in
+    let ok = a .pre .axes .ranges in
     record {
       sheet = sheet a;
       ranges = ok;
@@ -43,10 +43,10 @@ begun c =
     }
 
 steady-states-requires : tie.Need-steady-states-requires
-steady-states-requires c κs = λ j h. let a = c .before .before in rw (steady-in (a .args .f .head) (now (a .args .store)) j h) (a .pre .0 .ranges .steady j)
+steady-states-requires c κs = λ j h. let a = c .before .before in rw (steady-in (a .args .f .head) (now (a .args .store)) j h) (a .pre .axes .ranges .steady j)
 
 find-plan-requires : tie.Need-find-plan-requires
-find-plan-requires c κs = let a = c .before .before .before .before .before .before .before in (framed (c .before .before .before .before), a .pre .1)
+find-plan-requires c κs = let a = c .before .before .before .before .before .before .before in record { framed = framed (c .before .before .before .before); lent = a .pre .lent }
 
 sub-left : tie.Need-sub-left
 sub-left c = search needs
@@ -57,8 +57,8 @@ cast-run-levels c = search needs
 run-levels-requires : tie.Need-run-levels-requires
 unfolding sheetOf
 run-levels-requires c κs = let a = c .before .before .before .before .before .before .before .before .before .before .before .before .before .before .before .before .before in
-    let ok = a .pre .0 .ranges in
-    let w = a .pre .1 in
+    let ok = a .pre .axes .ranges in
+    let w = a .pre .lent in
     let levels = plan-levels _ _ _ _ _ _ _ _ (c .before .before .before .before .before .before .before .before .before .find-plan .ensures) ok (w .within) (c .before .before .before .before .if1 .taken) in
     (begun (c .before .before .before .before .before .before .before .before .before .before .before .before .before .before), (omega (arith, w .part, c .before .before .before .before .before .before .before .before .before .find-plan .kept .1 .1 .1 .1 .1 .0), λ i h. omega (arith, levels i (omega arith), ok .levels .high)))
 
@@ -74,7 +74,7 @@ same-length-2 c = search needs
 returns : tie.Need-returns
 unfolding sheetOf
 returns c = let a = c .before .before .before .before .before .before .before .before .before .before .before .before .before .before .before .before .before .before .before in
-    answers-plan _ _ _ _ _ _ _ _ (c .before .before .before .before .before .before .before .before .before .before .before .find-plan .ensures) (a .pre .0 .ranges) (a .pre .1 .within) (c .before .before .before .before .before .before .if1 .taken) _ _ (c .before .run-levels .ensures (sheet a) (a .pre .0 .ranges) (framed (c .before .before .before .before .before .before .before .before .before .before .before .before .before .before .before .before) .stored)) (c .planned .ensures)
+    answers-plan _ _ _ _ _ _ _ _ (c .before .before .before .before .before .before .before .before .before .before .before .find-plan .ensures) (a .pre .axes .ranges) (a .pre .lent .within) (c .before .before .before .before .before .before .if1 .taken) _ _ (c .before .run-levels .ensures (sheet a) (a .pre .axes .ranges) (framed (c .before .before .before .before .before .before .before .before .before .before .before .before .before .before .before .before) .stored)) (c .planned .ensures)
 
 refuse-requires : tie.Need-refuse-requires
 refuse-requires c κs = search needs

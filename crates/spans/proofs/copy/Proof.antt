@@ -34,7 +34,7 @@ mul-table-2 : tie.Need-mul-table-2 Inv-loop μ-loop
 mul-table-2 c = search needs
 
 slice-write-table : tie.Need-slice-write-table Inv-loop μ-loop
-slice-write-table c = spans-room (c .before .before .loop .inv .1) (c .before .loop-test .taken) (c .before .before .before .pre .0)
+slice-write-table c = spans-room (c .before .before .loop .inv .1) (c .before .loop-test .taken) (c .before .before .before .pre .room)
 
 add-k : tie.Need-add-k Inv-loop μ-loop
 add-k c = search needs
@@ -43,7 +43,7 @@ loop-less : tie.Need-loop-less Inv-loop μ-loop
 loop-less c = search needs
 
 loop-again : tie.Need-loop-again Inv-loop μ-loop
-loop-again c = (omega arith, spans-more (c .before .before .loop .inv .1) (c .before .loop-test .taken) (c .before .before .before .pre .0) _ refl)
+loop-again c = (omega arith, spans-more (c .before .before .loop .inv .1) (c .before .loop-test .taken) (c .before .before .before .pre .room) _ refl)
 
 same-length : tie.Need-same-length Inv-loop μ-loop
 same-length c = c .before .loop .inv .1 .long

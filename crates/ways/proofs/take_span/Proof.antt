@@ -51,7 +51,7 @@ same-length-5 : tie.Need-same-length-5
 same-length-5 c = search needs
 
 returns-5 : tie.Need-returns-5
-returns-5 c = spans-as (c .before .before .by-eight .ensures) (λ q l. ap settled (all-ways _ _ _ _ q 8 (omega (arith, c .before .before .before .before .before .before .before .if1 .left)) (c .before .before .before .before .before .before .before .before .before .before .before .before .pre .0 .few)))
+returns-5 c = spans-as (c .before .before .by-eight .ensures) (λ q l. ap settled (all-ways _ _ _ _ q 8 (omega (arith, c .before .before .before .before .before .before .before .if1 .left)) (c .before .before .before .before .before .before .before .before .before .before .before .before .pre .leads .few)))
 
 pub take-span-spec : {M : Type 1} → statement M
 take-span-spec = tie.close (tie.spec set-requires same-length returns by-two-requires same-length-2 returns-2 by-four-requires same-length-3 returns-3 by-six-requires same-length-4 returns-4 by-eight-requires same-length-5 returns-5)

@@ -4,18 +4,18 @@ use native.Mathlib.Omega.{arith}
 use mathlib.Core.Path.{sym, ap, _∙_}
 use Prim.Native.Nat.{ℕ}
 use lib.ListN.{getD}
-use Rattle.table.proofs.Lookup.{rest-word, rest-none}
-use Rattle.table.proofs.rest_of.Statement.{statement}
-use Rattle.table.proofs.rest_of.Tie as tie
+use Rattle.lookup.proofs.Lookup.{rest-word, rest-none}
+use Rattle.lookup.proofs.rest_of.Statement.{statement}
+use Rattle.lookup.proofs.rest_of.Tie as tie
 
 place-of-requires : tie.Need-place-of-requires
-place-of-requires c κs = let q = c .before .before .before .before .pre (c .if1 .taken) in (q .0, q .1)
+place-of-requires c κs = c .before .before .before .before .pre (c .if1 .taken) .steps
 
 mul-result : tie.Need-mul-result
-mul-result c = omega (arith, c .place-of .ensures, c .before .before .before .before .before .pre (c .before .if1 .taken) .1)
+mul-result c = omega (arith, c .place-of .ensures, c .before .before .before .before .before .pre (c .before .if1 .taken) .steps .allowed)
 
 shared-slice-read-result : tie.Need-shared-slice-read-result
-shared-slice-read-result c = omega (arith, c .before .place-of .ensures, c .before .before .before .before .before .before .pre (c .before .before .if1 .taken) .2)
+shared-slice-read-result c = omega (arith, c .before .place-of .ensures, c .before .before .before .before .before .before .pre (c .before .before .if1 .taken) .room)
 
 cast-result : tie.Need-cast-result
 cast-result c = search (needs, c .shared-slice-known2 .given (c .before .place-of .result))

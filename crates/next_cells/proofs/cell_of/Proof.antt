@@ -6,10 +6,10 @@ use native.Mathlib.Omega.{arith}
 use borrow.Author.Needs.{needs}
 use borrow.Author.Tests.{le-leb, lt-leb}
 use Rattle.thermal.specs.Rounding.{ceilDiv}
-use Rattle.follow.specs.Follow.{scale}
-use Rattle.follow.proofs.Multiplied.{multiplied}
-use Rattle.follow.proofs.cell_of.Statement.{statement}
-use Rattle.follow.proofs.cell_of.Tie as tie
+use Rattle.next_cells.specs.Next.{scale}
+use Rattle.next_cells.proofs.Multiplied.{multiplied}
+use Rattle.next_cells.proofs.cell_of.Statement.{statement}
+use Rattle.next_cells.proofs.cell_of.Tie as tie
 
 cast-if1 : tie.Need-cast-if1
 cast-if1 c = search needs

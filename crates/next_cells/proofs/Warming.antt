@@ -17,7 +17,7 @@ use Rattle.frame.proofs.Slack.{near-step}
 use Rattle.frame.proofs.Table.{temperature-cell}
 use Rattle.table.specs.declared.Frame.{Frame}
 use Rattle.table.specs.Table.{Axes}
-use Rattle.follow.specs.Follow.{warmed, nextCell}
+use Rattle.next_cells.specs.Next.{warmed, nextCell}
 
 module _ (s : Sheet) (ok : Ranges s) (i j : ℕ) where
   -- A warmer start ends no cooler.

@@ -8,10 +8,11 @@ use denote.Ref.{now}
 use Rattle.frame.specs.Plan.{leastOf, firstWithin, via}
 use Rattle.run.specs.Run.{stateOf}
 use Rattle.store.specs.Figures.{sheetOf}
-use Rattle.table.specs.Table.{restBy}
-use Rattle.table.proofs.Lookup.{least-none, least-more, first-none, first-less, first-kept}
-use Rattle.table.proofs.choose.Statement.{statement}
-use Rattle.table.proofs.choose.Tie as tie
+use Rattle.lookup.specs.Lookup.{restBy}
+use Rattle.table.proofs.Ways.{least-none, least-more}
+use Rattle.choice.proofs.Choice.{first-none, first-less, first-kept}
+use Rattle.choice.proofs.choose.Statement.{statement}
+use Rattle.choice.proofs.choose.Tie as tie
 
 abbrev Inv-loop : tie.InvT-loop
 Inv-loop f store steady table a l least₀ first₀ j₀ least first j = let w = via (sheetOf (f .head) store) (restBy (sheetOf (f .head) store) table) (stateOf a) in
@@ -30,10 +31,10 @@ loop-holds c = record { most = omega arith; least-is = sym (least-none _); first
 way-requires : tie.Need-way-requires Inv-loop μ-loop
 way-requires c κs =
     let a = c .before .before .before .pre in
-    (a .0, record { room = a .1 .room; at = a .1 .at; level = omega (arith, a .0 .axes .levels, c .loop-test .taken) })
+    record { framed = a .framed; room = a .room; at = a .at; level = omega (arith, a .framed .axes .levels, c .loop-test .taken) }
 
 add-j : tie.Need-add-j Inv-loop μ-loop
-add-j c = omega (arith, c .before .before .loop-test .taken, c .before .before .before .before .before .pre .0 .axes .levels, c .before .before .before .before .before .pre .0 .axes .ranges .levels .high)
+add-j c = omega (arith, c .before .before .loop-test .taken, c .before .before .before .before .before .pre .framed .axes .levels, c .before .before .before .before .before .pre .framed .axes .ranges .levels .high)
 
 loop-less : tie.Need-loop-less Inv-loop μ-loop
 loop-less c = omega (arith, c .before .before .loop-test .taken)
@@ -58,7 +59,7 @@ returns : tie.Need-returns Inv-loop μ-loop
 returns c =
     let i = c .before .loop .inv in
     let w = ways (c .before .before .before) in
-    let k = le-antisymm (i .most) (c .loop-test .left) ∙ c .before .before .before .pre .0 .axes .levels in
+    let k = le-antisymm (i .most) (c .loop-test .left) ∙ c .before .before .before .pre .framed .axes .levels in
     i .first-is ∙ ap (λ (m : ℕ). firstWithin m w (leastOf m w)) k
 
 pub choose-spec : {M : Type 1} → statement M

@@ -3,10 +3,11 @@ use mathlib.Core.Path.{_≡_}
 use Prim.Native.Nat.{ℕ, _+_, _*_, _<_}
 use native.Mathlib.Nat.{le-mul-of-pos-right}
 use native.Mathlib.Omega.{arith}
-use Rattle.table.specs.Table.{wordsMax, placeBy}
+use Rattle.table.specs.Table.{wordsMax}
+use Rattle.lookup.specs.Lookup.{placeBy}
 use borrow.Author.Needs.{needs}
-use Rattle.table.proofs.place_of.Statement.{statement}
-use Rattle.table.proofs.place_of.Tie as tie
+use Rattle.lookup.proofs.place_of.Statement.{statement}
+use Rattle.lookup.proofs.place_of.Tie as tie
 
 cast-ceil-div : tie.Need-cast-ceil-div
 cast-ceil-div c = search needs
@@ -50,9 +51,9 @@ parts : (c : tie.After-ceil-div2) →
     (job-level c < wordsMax) × (energy-row c < wordsMax) × (energy-row c * start c .args .f .«temperature_cells» + c .ceil-div2 .result < wordsMax)
 parts c =
     let s = start c .pre in
-    let w : energy-row c * start c .args .f .«temperature_cells» + c .ceil-div2 .result < wordsMax = omega (arith, is-place c, s .1) in
-    let o : energy-row c < wordsMax = omega (arith, w, le-mul-of-pos-right (energy-row c) (s .0 .temperature-cells)) in
-    (omega (arith, o, le-mul-of-pos-right (job-level c) (s .0 .energy-cells)), o, w)
+    let w : energy-row c * start c .args .f .«temperature_cells» + c .ceil-div2 .result < wordsMax = omega (arith, is-place c, s .allowed) in
+    let o : energy-row c < wordsMax = omega (arith, w, le-mul-of-pos-right (energy-row c) (s .temperature-cells)) in
+    (omega (arith, o, le-mul-of-pos-right (job-level c) (s .energy-cells)), o, w)
 
 mul-row : tie.Need-mul-row
 mul-row c = omega (arith, parts (c .before .before))

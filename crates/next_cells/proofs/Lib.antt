@@ -1,0 +1,2 @@
+pub mod Multiplied
+pub mod Warming
