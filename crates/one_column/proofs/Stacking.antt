@@ -30,6 +30,10 @@ module _ {old new : List ℕ} {at a width : ℕ} {f : ℕ → ℕ} (w : Column o
         outside = λ q l. getD-set-other new (at + a * width) q v 0 (λ i. l a (omega arith) i) ∙ w .outside q (λ b g. l b (omega arith));
       }
 
+  -- The same where the row's place was counted on.
+  pub column-next : {k : ℕ} → k ≡ a * width → 1 ≤ width → at + k < length new → (v : ℕ) → v ≡ f a → Column old (set new (at + k) v) at (a + 1) width f
+  column-next e wide room v h = rw e (column-more wide (omega (arith, e, room)) v h)
+
   -- A word behind the column is as it was.
   pub column-behind : (rows q : ℕ) → a ≤ rows → at + (rows - 1) * width < q → getD new q 0 ≡ getD old q 0
   column-behind rows q h l = w .outside q (λ b g e. let m : b ≤ rows - 1 = omega arith in absurd (omega (arith, mul-le-mul-right width m)))
@@ -39,3 +43,13 @@ module _ {old new : List ℕ} {at a width : ℕ} {f : ℕ → ℕ} (w : Column o
 
   pub column-same : {g : ℕ → ℕ} → ((i : ℕ) → i < a → f i ≡ g i) → Column old new at a width g
   column-same e = record { long = w .long; inside = λ i h. w .inside i h ∙ e i h; outside = w .outside }
+
+-- A row's place, one row further on, and within the rows.
+pub place-next : {k : ℕ} (a width : ℕ) → k ≡ a * width → k + width ≡ (a + 1) * width
+place-next a width e = omega (arith, e, add-mul a 1 width)
+
+pub place-within : {k : ℕ} (a rows width : ℕ) → k ≡ a * width → a < rows → (k ≤ (rows - 1) * width) × (k + width ≤ rows * width)
+place-within a rows width e h =
+    let top : a ≤ rows - 1 = omega arith in
+    let next : a + 1 ≤ rows = omega arith in
+    (omega (arith, e, mul-le-mul-right width top), omega (arith, e, add-mul a 1 width, mul-le-mul-right width next))

@@ -7,26 +7,30 @@ ghost use Rattle.one_column.specs.Column.{Column};
 use word::FAR;
 use word::cap;
 
-// Writes one column, from the column of the next job at `from`.
+// Writes one column, from the column of the next job at `from`. A row's place is counted on, as a product for each word costs more.
 fn gather_column(table: &mut [u32], at: usize, rows: usize, width: usize, from: usize)
-    requires { ⌜ record { rows-some : 1 ≤ rows; width-some : 1 ≤ width; behind : at + (rows - 1) * width < from; room : from + (rows - 1) * width < length (now table) } ⌝ }
+    requires { ⌜ record { rows-some : 1 ≤ rows; width-some : 1 ≤ width; behind : at + (rows - 1) * width < from; room : from + (rows - 1) * width < length (now table); size : rows * width ≤ length (now table) } ⌝ }
     ensures { λ r. ⌜ Column (now (table .entry)) (now (table .exit)) at rows width (λ (a : ℕ). near (getD (now (table .entry)) (from + a * width) 0)) ⌝ }
 {
+    let mut k: usize = 0;
     let mut a: usize = 0;
     while a < rows {
-        table[at + a * width] = cap(table[from + a * width]);
+        table[at + k] = cap(table[from + k]);
+        k += width;
         a += 1;
     }
 }
 
 // Writes one column that leads to no cell.
 fn clear_column(table: &mut [u32], at: usize, rows: usize, width: usize)
-    requires { ⌜ record { rows-some : 1 ≤ rows; width-some : 1 ≤ width; room : at + (rows - 1) * width < length (now table) } ⌝ }
+    requires { ⌜ record { rows-some : 1 ≤ rows; width-some : 1 ≤ width; room : at + (rows - 1) * width < length (now table); size : rows * width ≤ length (now table) } ⌝ }
     ensures { λ r. ⌜ Column (now (table .entry)) (now (table .exit)) at rows width (λ (a : ℕ). far) ⌝ }
 {
+    let mut k: usize = 0;
     let mut a: usize = 0;
     while a < rows {
-        table[at + a * width] = FAR;
+        table[at + k] = FAR;
+        k += width;
         a += 1;
     }
 }

@@ -15,7 +15,7 @@ add-gather-column : tie.Need-add-gather-column
 add-gather-column c = search (needs, first (c .before .before))
 
 gather-column-requires : tie.Need-gather-column-requires
-gather-column-requires c κs = let a = c .before .before .before in let z = first (c .before .before) in record { rows-some = a .pre .rows-some; width-some = a .pre .width-some; behind = omega (arith, a .pre .behind); room = omega (arith, a .pre .room, z, c .before .if1 .taken) }
+gather-column-requires c κs = let a = c .before .before .before in let z = first (c .before .before) in record { rows-some = a .pre .rows-some; width-some = a .pre .width-some; behind = omega (arith, a .pre .behind); room = omega (arith, a .pre .room, z, c .before .if1 .taken); size = omega (arith, a .pre .room) }
 
 clear-column-requires : tie.Need-clear-column-requires
 clear-column-requires c κs = search needs
