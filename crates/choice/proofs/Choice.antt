@@ -8,14 +8,13 @@ use native.Mathlib.Numerals.{add-one}
 use native.Mathlib.Omega.{arith}
 use native.Mathlib.Decide.{decLe}
 use borrow.Author.Tests.{le-leb, lt-leb}
-use Rattle.frame.specs.Sheet.{Sheet, Ranges}
+use Rattle.frame.specs.Sheet.{Sheet, Ranges, jobMost}
 use Rattle.frame.specs.Run.{State, change, job, step}
 use Rattle.frame.specs.Plan.{leastOf, firstWithin, next, cost, via, least}
 use Rattle.frame.specs.Demands.{infeasible}
 use Rattle.frame.specs.Table.{need}
 use Rattle.run.specs.Run.{stateOf}
 use Rattle.run.specs.declared.Run.{Run}
-use Rattle.run.proofs.Small.{jobMost}
 use Rattle.table.specs.declared.Frame.{Frame}
 use Rattle.table.specs.Table.{Axes, AtCell, Holds}
 use Rattle.table.proofs.Ways.{next-level, next-done, next-peak, next-cell, cost-energy, cost-temperature, cost-within}

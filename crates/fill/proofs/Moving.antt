@@ -7,7 +7,7 @@ use native.Mathlib.Decide.{decLt, decLe}
 use native.Mathlib.Omega.{arith}
 use borrow.Author.Tests.{le-leb, lt-leb, lt-ltb, le-ltb}
 use Rattle.thermal.specs.Rounding.{ceilDiv}
-use Rattle.frame.specs.Sheet.{Sheet, Ranges}
+use Rattle.frame.specs.Sheet.{Sheet, Ranges, jobMost}
 use Rattle.frame.specs.Run.{State, fresh, change, job, step}
 use Rattle.frame.specs.Demands.{infeasible}
 use Rattle.frame.specs.Plan.{leastOf, next, via, least}
@@ -15,7 +15,6 @@ use Rattle.frame.specs.Table.{energyCells, temperatureCells, cell, word}
 use Rattle.frame.proofs.Table.{temperature-cell, least-word}
 use Rattle.frame.proofs.Words.{least-bounded, least-small}
 use Rattle.store.specs.Store.{jobsMax}
-use Rattle.run.proofs.Small.{jobMost}
 use Rattle.table.proofs.Ways.{least-more, least-none, next-cell, cost-energy, cost-temperature, cost-within}
 use Rattle.table.proofs.Cells.{at-cell}
 use Rattle.word.specs.Word.{far, near, settled}

@@ -7,7 +7,7 @@ use Prim.Native.Nat.{ℕ, zero, suc, _+_, _*_, _-_, _≤_, _<_}
 use native.Mathlib.Omega.{arith}
 use native.Mathlib.Decide.{decLt}
 use lib.ListN.{length}
-use Rattle.frame.specs.Sheet.{Sheet, Ranges}
+use Rattle.frame.specs.Sheet.{Sheet, Ranges, jobMost}
 use Rattle.frame.specs.Run.{State, fresh, change, job, step}
 use Rattle.frame.specs.Plan.{least, plan}
 use Rattle.frame.specs.Table.{cell, word}
@@ -29,13 +29,13 @@ least-time-unique s n a x y h k =
 
 module _ (s : Sheet) (ok : Ranges s) where
   -- A job with its change takes at most 20 seconds.
-  run-short : (js : List ℕ) (a : State) → endTime s a js ≤ a.time + length js * 20000000
+  run-short : (js : List ℕ) (a : State) → endTime s a js ≤ a.time + length js * jobMost
   unfolding step change job
   run-short [] a = omega arith
   run-short (j ∷ js) a =
       omega (arith, run-short js (step s a j), ok .changeTime a.level j, ok .jobTime a.done j)
 
-  list-short : (n : ℕ) (a : State) (js : List ℕ) → LevelList s n js → endTime s a js ≤ a.time + n * 20000000
+  list-short : (n : ℕ) (a : State) (js : List ℕ) → LevelList s n js → endTime s a js ≤ a.time + n * jobMost
   list-short n a js l = rw (l .size) at (run-short js a)
 
   pub least-bounded : (n : ℕ) (a : State) → least s n a ≤ infeasible
@@ -68,7 +68,7 @@ module _ (s : Sheet) (ok : Ranges s) where
   word-least i p x y = least-time (s.jobs - i) (omega (arith, ok .jobs .high)) (cell s i p x y) (omega arith)
 
   -- A least time is 4,294,967,295 or far below it: at most 20 seconds a job.
-  pub least-small : (n : ℕ) (a : State) → least s n a < infeasible → least s n a ≤ n * 20000000
+  pub least-small : (n : ℕ) (a : State) → least s n a < infeasible → least s n a ≤ n * jobMost
   least-small n a l =
       let b = fresh a.done a.level a.energy a.temperature in
       let q : least s n a ≡ least s n b = least-from s n a b refl refl refl refl in

@@ -52,6 +52,10 @@ pub record Between (lo hi x : ℕ) : Type 0 where
   pub low : lo ≤ x
   pub high : x ≤ hi
 
+-- The most that a job adds to time and to energy: its own and those of the change before it, each at most 10,000,000.
+abbrev pub jobMost : ℕ
+jobMost = 20000000
+
 -- The ranges that document 01 gives the figures, line by line; `cool` is what refusal 5 leaves.
 pub record Ranges (s : Sheet) : Type 0 where
   pub jobs : Between 1 64 s.jobs

@@ -25,6 +25,10 @@ temperatureCells s = ceilDiv s.temperatureLimit s.temperatureStep + 1
 unfoldable pub need : Sheet → ℕ
 need s = s.jobs * s.levels * energyCells s * temperatureCells s
 
+-- "need above 4,194,304 words" is refused.
+abbrev pub wordsMax : ℕ
+wordsMax = 4194304
+
 -- "word ((i × l + p) × A + a) × B + b"
 unfoldable pub place : Sheet → ℕ → ℕ → ℕ → ℕ → ℕ
 place s i p a b = ((i * s.levels + p) * energyCells s + a) * temperatureCells s + b

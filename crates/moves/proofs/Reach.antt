@@ -8,11 +8,10 @@ use native.Mathlib.Decide.{decLt}
 use native.Mathlib.Omega.{arith}
 use borrow.Author.Tests.{lt-ltb, le-ltb}
 use Rattle.thermal.specs.Rounding.{ceilDiv}
-use Rattle.frame.specs.Sheet.{Sheet, Ranges}
+use Rattle.frame.specs.Sheet.{Sheet, Ranges, jobMost}
 use Rattle.frame.specs.Run.{change, job, step}
 use Rattle.frame.specs.Table.{energyCells, temperatureCells}
 use Rattle.frame.proofs.Table.{energy-cell}
-use Rattle.run.proofs.Small.{jobMost}
 use Rattle.table.specs.Table.{cells}
 use Rattle.moves.specs.Moves.{moved, shiftOf, reachOf}
 

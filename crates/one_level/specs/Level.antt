@@ -4,7 +4,7 @@ use mathlib.Core.List.{List}
 use Prim.Native.Nat.{ℕ, _+_, _*_, _≤_}
 use lib.ListN.{length}
 use Rattle.store.specs.Store.{levelsMax}
-use Rattle.word.specs.Word.{tableWordsMax}
+use Rattle.word.specs.Word.{wordsMax}
 use Rattle.open_ways.specs.Moves.{Moving, Lows}
 
 -- The words of a level that are worked on at once, and those of all levels.
@@ -18,7 +18,7 @@ scratchSize = levelsMax * partSize
 pub record Room (table scratch : List ℕ) (at levels cells : ℕ) : Type 0 where
   pub few : levels ≤ levelsMax
   pub inside : at + levels * cells ≤ length table
-  pub small : at + levels * cells ≤ tableWordsMax
+  pub small : at + levels * cells ≤ wordsMax
   pub parts : scratchSize ≤ length scratch
 
 -- A job whose words from word x on are to be worked out: its moves, its room, and what follows it.

@@ -8,7 +8,7 @@ use native.Mathlib.Omega.{arith}
 use lib.ListN.{length, getD}
 use borrow.Author.Tests.{lt-ltb, le-ltb}
 use Rattle.store.specs.Store.{levelsMax}
-use Rattle.word.specs.Word.{far, moveTimeMax}
+use Rattle.word.specs.Word.{far, jobMost}
 use Rattle.one_way.specs.Way.{byWay, slotOf, Leads}
 
 pub slot-own : (count k : ℕ) → k < count → slotOf count k ≡ k
@@ -34,7 +34,7 @@ pub record Place (table froms times : List ℕ) (w q : ℕ) : Type 0 where
   pub times-long : w < length times
   pub room : getD froms w 0 + q < length table
   pub low : getD table (getD froms w 0 + q) 0 ≤ far
-  pub short : getD times w 0 ≤ moveTimeMax
+  pub short : getD times w 0 ≤ jobMost
 
 pub place : {table froms times : List ℕ} {count q : ℕ} → Leads table (q + 1) count froms times → 1 ≤ count → (w k : ℕ) → w ≡ slotOf count k → Place table froms times w q
 place {count = count} {q} o h w k e =

@@ -6,7 +6,7 @@ use Prim.Native.Nat.{ℕ, _+_, _≤_, _<_}
 use lib.Dec.{ltb}
 use lib.ListN.{length, getD}
 use Rattle.store.specs.Store.{levelsMax}
-use Rattle.word.specs.Word.{far, moveTimeMax}
+use Rattle.word.specs.Word.{far, jobMost}
 
 -- The time of word q by way k.
 unfoldable pub byWay : List ℕ → List ℕ → List ℕ → ℕ → ℕ → ℕ
@@ -23,7 +23,7 @@ pub record Leads (table : List ℕ) (n count : ℕ) (froms times : List ℕ) : T
   pub times-long : levelsMax ≤ length times
   pub room : (k : ℕ) → k < count → getD froms k 0 + n ≤ length table
   pub low : (k q : ℕ) → k < count → q < n → getD table (getD froms k 0 + q) 0 ≤ far
-  pub short : (k : ℕ) → k < count → getD times k 0 ≤ moveTimeMax
+  pub short : (k : ℕ) → k < count → getD times k 0 ≤ jobMost
 
 -- The same of at least one way.
 pub record Opened (table : List ℕ) (n count : ℕ) (froms times : List ℕ) : Type 0 where

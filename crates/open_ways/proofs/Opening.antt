@@ -8,7 +8,7 @@ use native.Mathlib.Decide.{decLt}
 use native.Mathlib.Omega.{arith}
 use lib.ListN.{length, getD, set}
 use lib.Seq.{getD-set-same, getD-set-other}
-use Rattle.word.specs.Word.{far, moveTimeMax}
+use Rattle.word.specs.Word.{far, jobMost}
 use Rattle.one_way.specs.Way.{byWay}
 use Rattle.least_way.specs.Least.{leastBy}
 use Rattle.open_ways.specs.Moves.{Moving, Lows, relaxedAt, Open}
@@ -103,7 +103,7 @@ module _ (shifts reaches times : List ℕ) (levels cells at p y end : ℕ) where
                 rw (e, getD-set-same froms count from 0 hf, s) (v .low k (y + getD shifts u 0 + q) hk (omega arith) (omega (arith, inner)))
           ]
 
-      short : (w : ℕ) → w < suc count → getD (set costs count time) w 0 ≤ moveTimeMax
+      short : (w : ℕ) → w < suc count → getD (set costs count time) w 0 ≤ jobMost
       short w l =
           elim (decLt w count) [
             | yes z ↦ rw (cost-before froms costs count from time hf hc w z) (o .short w z)

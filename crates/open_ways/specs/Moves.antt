@@ -9,7 +9,7 @@ use Prim.Native.Nat.{ℕ, zero, suc, _+_, _*_, _-_, _≤_, _<_, min}
 use lib.Dec.{ltb}
 use lib.ListN.{length, getD}
 use Rattle.store.specs.Store.{levelsMax, changesMax}
-use Rattle.word.specs.Word.{far, moveTimeMax}
+use Rattle.word.specs.Word.{far, jobMost}
 use Rattle.least_way.specs.Least.{leastBy}
 
 -- The moves' figures, and what sums and places rest on: a move leads to a word of its level.
@@ -19,7 +19,7 @@ pub record Moving (levels cells : ℕ) (shifts reaches times : List ℕ) : Type 
   pub reaches-long : changesMax ≤ length reaches
   pub times-long : changesMax ≤ length times
   pub within : (u : ℕ) → u < levels * levels → getD reaches u 0 + getD shifts u 0 ≤ cells
-  pub short : (u : ℕ) → u < levels * levels → getD times u 0 ≤ moveTimeMax
+  pub short : (u : ℕ) → u < levels * levels → getD times u 0 ≤ jobMost
 
 -- None of the words from word x on of each level is above `far`.
 pub record Lows (levels cells at x : ℕ) (table : List ℕ) : Type 0 where
@@ -41,5 +41,5 @@ pub record Open (shifts reaches times : List ℕ) (levels cells at p k y end cou
   pub few : count ≤ k
   pub room : (w : ℕ) → w < count → getD froms w 0 + (to - y) ≤ at + levels * cells
   pub low : (t : List ℕ) → Lows levels cells at y t → (w q : ℕ) → w < count → q < to - y → getD t (getD froms w 0 + q) 0 ≤ far
-  pub short : (w : ℕ) → w < count → getD costs w 0 ≤ moveTimeMax
+  pub short : (w : ℕ) → w < count → getD costs w 0 ≤ jobMost
   pub exact : (t : List ℕ) (q : ℕ) → q < to - y → leastBy t froms costs count q ≡ relaxedAt shifts reaches times t levels cells at p k (y + q)

@@ -2,7 +2,7 @@ ghost use mathlib.Core.Path.{_≡_};
 ghost use Prim.Native.Nat.{_+_, _*_, _≤_, _<_};
 ghost use lib.ListN.{length};
 ghost use Rattle.store.specs.Store.{levelsMax};
-ghost use Rattle.word.specs.Word.{tableWordsMax};
+ghost use Rattle.word.specs.Word.{wordsMax};
 ghost use Rattle.open_ways.specs.Moves.{Moving, Open};
 use spans::fewest;
 
@@ -29,7 +29,7 @@ pub fn find_ways(
 ) -> Span
     requires { ⌜ record {
       moves : Moving levels cells (now shifts) (now reaches) (now times);
-      small : at + levels * cells ≤ tableWordsMax;
+      small : at + levels * cells ≤ wordsMax;
       level : p < levels;
       some : y < end;
       within : end ≤ cells;

@@ -7,12 +7,8 @@ use Prim.Native.Nat.{ℕ, suc, _+_, _*_, _≤_, max}
 use native.Mathlib.Omega.{arith}
 use lib.ListN.{length}
 use Rattle.thermal.proofs.Thermal.{rule-max}
-use Rattle.frame.specs.Sheet.{Sheet, Ranges, steadyOf}
+use Rattle.frame.specs.Sheet.{Sheet, Ranges, steadyOf, jobMost}
 use Rattle.frame.specs.Run.{State, fresh, start, change, job, step, exactRun}
-
--- Most that a job adds to time and to energy: 10,000,000, and as much for the change before it.
-abbrev pub jobMost : ℕ
-jobMost = 20000000
 
 -- k jobs after the state `first`.
 pub record Grown (first : State) (k : ℕ) (a : State) : Type 0 where

@@ -9,7 +9,7 @@ use native.Mathlib.Decide.{decLt}
 use lib.ListN.{length, getD, set, replicate, length-set}
 use lib.Seq.{getD-set-same, getD-set-other}
 use borrow.Author.Tests.{lt-ltb}
-use Rattle.thermal.specs.Thermal.{steadyState}
+use Rattle.thermal.specs.Thermal.{steadyState, raisedTemperatureMax}
 use Rattle.frame.specs.Sheet.{Sheet, Ranges, steadyOf}
 use Rattle.frame.proofs.Tabulate.{getD-tabulate, tabulated}
 use Rattle.store.specs.declared.Head.{Head}
@@ -93,7 +93,7 @@ module _ {s : Sheet} {store steady : List ℕ} (h : Stored s store steady) where
       })
 
   pub rests : (a : Run) (j : ℕ) → Ranges s → a.done < jobsMax → a.level < levelsMax → j < levelsMax → a.time < 2 ^ 63 → a.energy < 2 ^ 63 →
-      a.temperature ≤ 39998 → Rests a store steady j
+      a.temperature ≤ raisedTemperatureMax → Rests a store steady j
   rests a j r hi hp hj ht he hw =
       record {
         done = hi;

@@ -7,6 +7,7 @@ use Prim.Native.Nat.{ℕ, _+_, _*_, _≤_, _<_}
 use native.Mathlib.Nat.{mul-assoc, mul-le-mul, mul-le-mul-right, zero-add}
 use native.Mathlib.Omega.{arith}
 use lib.ListN.{length, drop, List·getD-append}
+use Rattle.thermal.specs.Thermal.{raisedTemperatureMax}
 use Rattle.frame.specs.Sheet.{Sheet, Ranges}
 use Rattle.thermal.specs.Rounding.{ceilDiv, raise}
 use Rattle.thermal.proofs.Rounding.{raise-le, raise-multiple, raise-warmest}
@@ -35,7 +36,7 @@ module _ (s : Sheet) (ok : Ranges s) where
       let l : a ≤ ceilDiv s.energyBudget s.energyStep = omega arith in
       omega (arith, mul-le-mul-right s.energyStep l, raise-le s.energyStep s.energyBudget, ok .energyBudget, ok .energyStep)
 
-  pub cell-temperature : (b : ℕ) → b < temperatureCells s → b * s.temperatureStep ≤ 39998
+  pub cell-temperature : (b : ℕ) → b < temperatureCells s → b * s.temperatureStep ≤ raisedTemperatureMax
   unfolding temperatureCells raise
   cell-temperature b h =
       let l : b ≤ ceilDiv s.temperatureLimit s.temperatureStep = omega arith in

@@ -5,16 +5,14 @@ use mathlib.Core.Path.{_≡_}
 use mathlib.Core.List.{List}
 use Prim.Native.Nat.{ℕ, _+_, _*_, _≤_, _<_}
 use lib.ListN.{getD}
+use Rattle.thermal.specs.Thermal.{raisedTemperatureMax}
 use Rattle.frame.specs.Sheet.{Sheet, Ranges}
 use Rattle.frame.specs.Run.{State, fresh, raised}
 use Rattle.frame.specs.Table.{energyCells, temperatureCells, need, place, word}
 use Rattle.run.specs.declared.Run.{Run}
 use Rattle.step.specs.Store.{limitMax, Stored}
 use Rattle.table.specs.declared.Frame.{Frame}
-
--- "need above 4,194,304 words" is refused.
-abbrev pub wordsMax : ℕ
-wordsMax = 4194304
+pub use Rattle.frame.specs.Table.{wordsMax}
 
 -- A raised energy is below W and one step more, each at most 2,000,000,000.
 abbrev pub raisedEnergyMax : ℕ
@@ -45,7 +43,7 @@ pub record AtCell (s : Sheet) (a : State) : Type 0 where
   pub done : a.done < s.jobs
   pub level : a.level < s.levels
   pub energy : a.energy ≤ raisedEnergyMax
-  pub temperature : a.temperature ≤ 39998
+  pub temperature : a.temperature ≤ raisedTemperatureMax
 
 -- What raising a run may rest on, in 32 bits.
 pub record Raises (f : Frame) (b : Run) : Type 0 where

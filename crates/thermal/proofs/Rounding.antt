@@ -6,6 +6,7 @@ use Prim.Native.Nat.{ℕ, suc, _+_, _*_, _-_, _≤_, _<_}
 use native.Mathlib.Nat.{le-refl, le-antisymm, mul-le-mul-right, div-mul-le-self, lt-div-mul-add, div-lt-iff-lt-mul, zero-mul}
 use native.Mathlib.Decide.{decLe}
 use native.Mathlib.Omega.{arith}
+use Rattle.thermal.specs.Thermal.{raisedTemperatureMax}
 use Rattle.thermal.specs.Rounding.{ceilDiv, raise}
 
 -- x / n rounded up is the least whole number whose n-fold is not below x.
@@ -49,7 +50,7 @@ unfolding raise
 raise-twice g x p = raise-multiple g (ceilDiv x g) p
 
 -- A temperature of at most 20,000, raised by a step of at most 20,000, is at most 39,998: what the thermal rule may rest on.
-pub raise-warmest : (h t : ℕ) → 0 < h → h ≤ 20000 → t ≤ 20000 → raise h t ≤ 39998
+pub raise-warmest : (h t : ℕ) → 0 < h → h ≤ 20000 → t ≤ 20000 → raise h t ≤ raisedTemperatureMax
 raise-warmest h t p l k =
     elim (decLe t h) [
       | yes u ↦ omega (arith, raise-least h t 1 p (omega arith))

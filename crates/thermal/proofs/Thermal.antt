@@ -6,7 +6,7 @@ use Prim.Native.Nat.{ℕ, _+_, _*_, _-_, _≤_, _<_, max}
 use native.Mathlib.Nat.{mul-le-mul-left, mul-le-mul-right, le-max-left, le-max-right}
 use native.Mathlib.Omega.{arith}
 use Rattle.thermal.specs.Rounding.{ceilDiv}
-use Rattle.thermal.specs.Thermal.{steadyState, temperatureAfter, RuleDomain}
+use Rattle.thermal.specs.Thermal.{steadyState, temperatureAfter, RuleDomain, raisedTemperatureMax}
 
 -- The steady-state temperature r is nearest to P × R / 10,000, an exact half upwards: r - 1/2 ≤ P × R / 10,000 < r + 1/2.
 pub steady-nearest : (p r : ℕ) → (10000 * steadyState p r ≤ p * r + 5000) × (p * r < 10000 * steadyState p r + 5000)
@@ -52,5 +52,5 @@ pub rule-nonexpansive : (s d : ℕ) → d ≤ 65536 → Nonexpansive (λ t. temp
 rule-nonexpansive s d h = record { mono = λ t u l. rule-mono t u s d l; slack = λ t k. rule-slack t k s d h }
 
 -- The rule as a function takes the largest figures that document 01 names.
-pub rule-domain : RuleDomain 39998 20000 65536
+pub rule-domain : RuleDomain raisedTemperatureMax 20000 65536
 rule-domain = omega arith

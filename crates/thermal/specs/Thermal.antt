@@ -17,8 +17,12 @@ steadyState power resistance = (power * resistance + 5000) / 10000
 unfoldable pub temperatureAfter : ℕ → ℕ → ℕ → ℕ
 temperatureAfter temperature steady decay = ceilDiv (decay * temperature + (65536 - decay) * steady) 65536
 
+-- The warmest raised temperature: "it may rest on T at most 39,998".
+abbrev pub raisedTemperatureMax : ℕ
+raisedTemperatureMax = 39998
+
 -- What the rule, "an inner call, worked in a 64-bit number", "may rest on".
 pub record RuleDomain (temperature steady decay : ℕ) : Type 0 where
-  pub temperature-most : temperature ≤ 39998
+  pub temperature-most : temperature ≤ raisedTemperatureMax
   pub steady-most : steady ≤ 20000
   pub decay-most : decay ≤ 65536

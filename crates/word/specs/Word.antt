@@ -4,10 +4,9 @@
 use mathlib.Core.Bool.{cond}
 use Prim.Native.Nat.{ℕ, _+_, min}
 use lib.Dec.{ltb}
-
--- The most words of a table.
-abbrev pub tableWordsMax : ℕ
-tableWordsMax = 4194304
+-- The most words of a table, and the most time of a move, a change and a job.
+pub use Rattle.frame.specs.Table.{wordsMax}
+pub use Rattle.frame.specs.Sheet.{jobMost}
 
 -- Stands for "no way" while the words of a job are worked on: above every time of a frame, and so small that sums stay in 32 bits.
 abbrev pub far : ℕ
@@ -17,13 +16,9 @@ far = 2000000000
 abbrev pub noWay : ℕ
 noWay = 4294967295
 
--- The most time of a move: a change and a job, each at most 10,000,000.
-abbrev pub moveTimeMax : ℕ
-moveTimeMax = 20000000
-
 -- The most that a word and the time of a move come to: still below 2 ^ 31.
 abbrev pub sumMax : ℕ
-sumMax = far + moveTimeMax
+sumMax = far + jobMost
 
 -- A word of the next job: its time, or `far` for 4,294,967,295 and whatever is not below `far`.
 abbrev pub near : ℕ → ℕ

@@ -4,10 +4,10 @@ use Prim.Native.Nat.{_*_, _≤_}
 use native.Mathlib.Omega.{arith}
 use denote.Ref.{now}
 use borrow.Author.Needs.{needs}
+use Rattle.frame.specs.Sheet.{jobMost}
 use Rattle.frame.specs.Run.{State, step}
 use Rattle.store.specs.Figures.{sheetOf}
 use Rattle.run.specs.Run.{stateOf}
-use Rattle.run.proofs.Small.{jobMost}
 use Rattle.step.proofs.Store.{rests}
 use Rattle.table.specs.Table.{wordsMax}
 use Rattle.moves.specs.declared.Move.{Move}

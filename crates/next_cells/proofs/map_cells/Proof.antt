@@ -5,6 +5,7 @@ use Prim.Native.Nat.{ℕ, _*_, _-_, _≤_}
 use native.Mathlib.Nat.{div-le-self}
 use native.Mathlib.Omega.{arith}
 use denote.Ref.{now}
+use Rattle.thermal.specs.Thermal.{raisedTemperatureMax}
 use Rattle.frame.specs.Run.{State, step, fresh}
 use Rattle.step.proofs.Store.{rests}
 use Rattle.table.proofs.Cells.{cell-temperature, width-small}
@@ -38,7 +39,7 @@ loop-holds : tie.Need-loop-holds Inv-loop μ-loop
 loop-holds c = record { most = omega arith; written = spans-none _ _ _ }
 
 -- The temperature of the turn's cell is small.
-warm-small : (c : tie.In-loop Inv-loop μ-loop) → c .before .loop .b * c .before .before .before .before .before .args .f .head .«temperature_step» ≤ 39998
+warm-small : (c : tie.In-loop Inv-loop μ-loop) → c .before .loop .b * c .before .before .before .before .before .args .f .head .«temperature_step» ≤ raisedTemperatureMax
 warm-small c =
     let g = c .before .before .before .before .before .pre .framed .axes in
     let b = c .before .loop .b in

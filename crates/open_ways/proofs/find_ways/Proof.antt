@@ -7,7 +7,7 @@ use native.Mathlib.Omega.{arith}
 use mir.Facts.{fits-widen}
 use lib.ListN.{getD, length, length-set}
 use Rattle.store.specs.Store.{levelsMax, changesMax}
-use Rattle.word.specs.Word.{tableWordsMax}
+use Rattle.word.specs.Word.{wordsMax}
 use Rattle.open_ways.specs.Moves.{Open}
 use Rattle.open_ways.proofs.Moves.{level-end, move-few, move-within}
 use Rattle.open_ways.proofs.Opening.{open-none, open-more, open-less}
@@ -55,7 +55,7 @@ cast-reach c = fits-widen tt (c .shared-slice-known4 .given _)
 
 -- The move leads to a word of its level, and that level's words are among the first 4,194,304.
 leads : (c : tie.In-loop Inv-loop μ-loop) → let a = c .before .before .before .before .before .before .before .args in let u = a .p * a .levels + c .before .loop .j in
-    (getD (a .reaches .now) u 0 + getD (a .shifts .now) u 0 ≤ a .cells) × (a .at + c .before .loop .j * a .cells + a .cells ≤ tableWordsMax)
+    (getD (a .reaches .now) u 0 + getD (a .shifts .now) u 0 ≤ a .cells) × (a .at + c .before .loop .j * a .cells + a .cells ≤ wordsMax)
 leads c =
     let a = c .before .before .before .before .before .before .before in
     let j = c .before .loop .j in

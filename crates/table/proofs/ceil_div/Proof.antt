@@ -1,4 +1,5 @@
 -- The quotient is the definition's, and nothing overflows in 32 bits.
+use mathlib.Core.Path.{refl}
 use Rattle.thermal.specs.Rounding.{ceilDiv}
 use borrow.Author.Needs.{needs}
 use Rattle.table.proofs.ceil_div.Statement.{statement}
@@ -15,7 +16,7 @@ div-result c = search needs
 
 returns : tie.Need-returns
 unfolding ceilDiv
-returns c = search needs
+returns c = refl
 
 pub ceil-div-spec : {M : Type 1} → statement M
 ceil-div-spec = tie.close (tie.spec sub-result add-result div-result returns)

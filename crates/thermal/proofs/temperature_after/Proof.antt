@@ -5,12 +5,12 @@ use native.Mathlib.Nat.{mul-le-mul}
 use native.Mathlib.Omega.{arith}
 use borrow.Author.Needs.{needs}
 use Rattle.thermal.specs.Rounding.{ceilDiv}
-use Rattle.thermal.specs.Thermal.{temperatureAfter}
+use Rattle.thermal.specs.Thermal.{temperatureAfter, raisedTemperatureMax}
 use Rattle.thermal.proofs.temperature_after.Statement.{statement}
 use Rattle.thermal.proofs.temperature_after.Tie as tie
 
 -- a weight of at most 65,536 times a temperature of at most 39,998
-product : (d t : ℕ) → d ≤ 65536 → t ≤ 39998 → d * t ≤ 65536 * 39998
+product : (d t : ℕ) → d ≤ 65536 → t ≤ raisedTemperatureMax → d * t ≤ 65536 * raisedTemperatureMax
 product d t h k = mul-le-mul h k
 
 mul-result : tie.Need-mul-result
@@ -22,7 +22,7 @@ sub-result c = search needs
 mul-result-2 : tie.Need-mul-result-2
 mul-result-2 c = omega (arith, product (65536 - c .args .decay) (c .args .steady) (omega arith) (omega arith))
 
-sum : (d t s : ℕ) → d ≤ 65536 → t ≤ 39998 → s ≤ 20000 → d * t + (65536 - d) * s ≤ 65536 * 39998 + 65536 * 39998
+sum : (d t s : ℕ) → d ≤ 65536 → t ≤ raisedTemperatureMax → s ≤ 20000 → d * t + (65536 - d) * s ≤ 65536 * raisedTemperatureMax + 65536 * raisedTemperatureMax
 sum d t s h k l = omega (arith, product d t h k, product (65536 - d) s (omega arith) (omega arith))
 
 add-result : tie.Need-add-result
