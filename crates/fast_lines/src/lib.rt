@@ -31,7 +31,7 @@ pub enum Next {
 
 // Takes an L line, to place k of the store.
 fn take_level(s: &[u8], from: usize, resistance: u32, k: usize, store: &mut [u32]) -> Next
-    requires { ⌜ (from ≤ length (now s)) × PlaceIn (Level resistance) k (now store) ⌝ }
+    requires { ⌜ record { start : from ≤ length (now s); figures : PlaceIn (Level resistance) k (now store) } ⌝ }
     ensures { λ r. ⌜ TakesLine (Level resistance) 0 (now (s .entry)) from k (now (store .entry)) (now (store .exit)) r ⌝ }
 {
     if !fast_fields::starts_with(s, from, b'L', LEVEL_ROOM) {
@@ -58,7 +58,7 @@ fn take_change(
     k: usize,
     store: &mut [u32],
 ) -> Next
-    requires { ⌜ (from ≤ length (now s)) × PlaceIn (Change left) k (now store) ⌝ }
+    requires { ⌜ record { start : from ≤ length (now s); figures : PlaceIn (Change left) k (now store) } ⌝ }
     ensures { λ r. ⌜ TakesLine (Change left) entered (now (s .entry)) from k (now (store .entry)) (now (store .exit)) r ⌝ }
 {
     if !fast_fields::starts_with(s, from, b'S', CHANGE_ROOM) {
@@ -80,7 +80,7 @@ fn take_change(
 
 // Takes a B line, to place k of the store.
 fn take_work(s: &[u8], from: usize, k: usize, store: &mut [u32]) -> Next
-    requires { ⌜ (from ≤ length (now s)) × PlaceIn Work k (now store) ⌝ }
+    requires { ⌜ record { start : from ≤ length (now s); figures : PlaceIn Work k (now store) } ⌝ }
     ensures { λ r. ⌜ TakesLine Work 0 (now (s .entry)) from k (now (store .entry)) (now (store .exit)) r ⌝ }
 {
     if !fast_fields::starts_with(s, from, b'B', WORK_ROOM) {
@@ -105,7 +105,7 @@ fn take_work(s: &[u8], from: usize, k: usize, store: &mut [u32]) -> Next
 
 // Takes line i, from 0, of the lines of a kind, to place k of the store.
 pub fn take_line(s: &[u8], from: usize, kind: Kind, i: usize, k: usize, store: &mut [u32]) -> Next
-    requires { ⌜ (from ≤ length (now s)) × PlaceIn kind k (now store) ⌝ }
+    requires { ⌜ record { start : from ≤ length (now s); figures : PlaceIn kind k (now store) } ⌝ }
     ensures { λ r. ⌜ TakesLine kind i (now (s .entry)) from k (now (store .entry)) (now (store .exit)) r ⌝ }
 {
     match kind {

@@ -8,7 +8,7 @@ use Prim.Native.Nat.{ℕ, suc, _+_, _-_, _≤_, _<_}
 use native.Mathlib.Decide.{decLe}
 use native.Mathlib.Omega.{arith}
 use lib.Dec.{eqb}
-use lib.ListN.{length, getD, set, replicate}
+use lib.ListN.{length, getD, set, replicate, length-set}
 use borrow.Author.Tests.{lt-ltb, le-ltb, eq-eqb, ne-eqb, eqb-true}
 use Rattle.text.specs.Text.{before, until, beyond, count, part}
 use Rattle.numbers.specs.Number.{isNumber, valueFrom, fieldAt}
@@ -179,6 +179,20 @@ module _ (los his s : List ℕ) (to k j p : ℕ) (vs : List ℕ) (h : j < k) whe
             let z : _≡_ {A = ℕ} 0 1 = clash (sym (f .0) ∙ g) in
             absurd (omega arith)
       ]
+
+-- One number more is read.
+pub reading-next : {los his s : List ℕ} {at to first k : ℕ} {old values : List ℕ} {p j : ℕ} → Reading los his s at to first k old values p j → j < k →
+    (v q : ℕ) → fieldAt p (part p to s) ≡ Number v q → getD los j 0 ≤ v → v ≤ getD his j 0 → Reading los his s at to first k old (set values j v) q (j + 1)
+reading-next {los} {his} {s} {at} {to} {first} {k} {old} {values} {p} {j} g h v q e l m =
+    record {
+      start = omega (arith, g .start);
+      most = omega arith;
+      few = g .few;
+      place = next-within los his s to k j p values h v q e (g .within) (g .place);
+      within = g .within;
+      long = length-set values j v ∙ g .long;
+      same = g .same ∙ numbers-on los his s to k j p values h v q e l m;
+    }
 
 pub numbers-end : (los his t vs : List ℕ) (k j : ℕ) → k ≤ j → numbersFrom los his (k - j) j t vs ≡ record { fault = Sound; values = vs; rest = t }
 unfolding numbersFrom

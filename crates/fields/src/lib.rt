@@ -23,7 +23,7 @@ pub struct Numbers {
 
 // Whether a line's first field is the letter and k fields come after it; `tabs` is how many bytes 9 it has.
 pub fn opens_with(s: &[u8], from: usize, to: usize, tabs: usize, letter: u8, k: usize) -> bool
-    requires { ⌜ (from ≤ to) × (to ≤ length (now s)) × (65 ≤ letter) × (tabs ≡ count 9 (part from to (now s))) ⌝ }
+    requires { ⌜ record { start : from ≤ to; end : to ≤ length (now s); capital : 65 ≤ letter; counted : tabs ≡ count 9 (part from to (now s)) } ⌝ }
     ensures { λ r. ⌜ r ≡ opens letter k (part from to (now (s .entry))) ⌝ }
 {
     if from == to {

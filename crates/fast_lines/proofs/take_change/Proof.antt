@@ -5,7 +5,6 @@ use mathlib.Core.Bool.{cond}
 use mathlib.Core.Logic.{⊎-elim}
 use Prim.Native.Nat.{_+_}
 use lib.Dec.{eqb}
-use lib.ListN.{length-set}
 use native.Mathlib.Omega.{arith}
 use borrow.Author.Needs.{needs}
 use borrow.Author.Tests.{not-true, not-false}

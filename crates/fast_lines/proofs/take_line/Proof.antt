@@ -9,19 +9,19 @@ enum-known-kind : tie.Need-enum-known-kind
 enum-known-kind c = search needs
 
 take-level-requires : tie.Need-take-level-requires
-take-level-requires c κs = (search needs, record { place = few-levels _ _ (c .before .before .before .before .before .before .pre .1 .place) _ (c .before .before .kind .given .1); long = search needs })
+take-level-requires c κs = record { start = search needs; figures = record { place = few-levels _ _ (c .before .before .before .before .before .before .pre .figures .place) _ (c .before .before .kind .given .1); long = search needs } }
 
 enum-known-kind-2 : tie.Need-enum-known-kind-2
 enum-known-kind-2 c = search needs
 
 take-change-requires : tie.Need-take-change-requires
-take-change-requires c κs = (search needs, record { place = few-changes _ _ (c .before .before .before .before .before .before .pre .1 .place) _ (c .before .before .kind2 .given .1); long = search needs })
+take-change-requires c κs = record { start = search needs; figures = record { place = few-changes _ _ (c .before .before .before .before .before .before .pre .figures .place) _ (c .before .before .kind2 .given .1); long = search needs } }
 
 enum-told : tie.Need-enum-told
 enum-told c = search needs
 
 take-work-requires : tie.Need-take-work-requires
-take-work-requires c κs = (search needs, record { place = few-works _ _ (c .before .before .before .before .before .pre .1 .place) (c .before .enum-told .given .1); long = search needs })
+take-work-requires c κs = record { start = search needs; figures = record { place = few-works _ _ (c .before .before .before .before .before .pre .figures .place) (c .before .enum-told .given .1); long = search needs } }
 
 same-length : tie.Need-same-length
 same-length c = search needs

@@ -1,7 +1,6 @@
 -- `take_work` takes what the definition takes: the letter by `starts_with`, each figure by `take_number`, and the store by `put_values`.
 use mathlib.Core.Path.{sym, _∙_}
 use Prim.Native.Nat.{_+_}
-use lib.ListN.{length-set}
 use native.Mathlib.Omega.{arith}
 use borrow.Author.Needs.{needs}
 use borrow.Author.Tests.{not-true, not-false}

@@ -32,7 +32,7 @@ returns-3 c = sym (opens-longer _ _ _ _ _ (search needs) (search needs) (search 
 returns-4 : tie.Need-returns-4
 returns-4 c =
     let a = c .before .before .before .before .args in
-    ap (λ (m : ℕ). eqb m (a .k)) (c .before .before .before .before .pre .3)
+    ap (λ (m : ℕ). eqb m (a .k)) (c .before .before .before .before .pre .counted)
     ∙ sym (opens-count _ _ _ _ _ (search needs) (search needs) (search needs) (search needs)
     (⊎-elim (λ w. inr (search needs, search needs)) (λ w. inl (search needs)) (c .if3 .came)))
 

@@ -1,13 +1,13 @@
 -- `read_numbers` gives what the definition says: after each number the numbers that are left are still those of the line.
 use mathlib.Core.Path.{_≡_, refl, sym, _∙_}
-use Prim.Native.Nat.{_+_, _-_}
+use Prim.Native.Nat.{_-_}
 use lib.ListN.{getD}
 use mir.Syntax.{w32}
 use mir.Val.{Fits}
 use Rattle.text.specs.Text.{part}
 use Rattle.numbers.specs.Number.{fieldAt}
 use Rattle.numbers.specs.declared.Field.the-variants.{Number}
-use Rattle.fields.proofs.Fields.{Reading, numbers-form, numbers-low, numbers-high, numbers-on, numbers-end, next-within}
+use Rattle.fields.proofs.Fields.{Reading, numbers-form, numbers-low, numbers-high, numbers-end, reading-next}
 use borrow.Author.Needs.{needs}
 use Rattle.fields.proofs.read_numbers.Statement.{statement}
 use Rattle.fields.proofs.read_numbers.Tie as tie
@@ -106,17 +106,8 @@ loop-less c = search needs
 
 loop-again : tie.Need-loop-again Inv-loop μ-loop
 loop-again c =
-    let l = c .before .before .before .before .before .before .before .loop in
-    let e = number-here (c .before .before .before) in
-    record {
-      start = search needs;
-      most = search needs;
-      few = search needs;
-      place = next-within (c .before .before .before .before .before .before .before .before .before .args .t7) (c .before .before .before .before .before .before .before .before .before .args .t8) _ _ (c .before .before .before .before .before .before .before .before .before .args .k) (l .j) _ (l .values) (search needs) _ _ e (search needs) (search needs);
-      within = search needs;
-      long = search needs;
-      same = l .inv .same ∙ numbers-on _ _ _ _ _ _ _ _ (search needs) _ _ e (search needs) (search needs);
-    }
+    let b = c .before .before .before .before .before .before in
+    reading-next (b .before .loop .inv) (b .loop-test .taken) _ _ (number-here (c .before .before .before)) (c .before .if1 .left) (c .if2 .left)
 
 returns-4 : tie.Need-returns-4 Inv-loop μ-loop
 returns-4 c = (sym (c .before .loop .inv .same ∙ numbers-end _ _ _ _ _ _ (search needs)), c .before .loop .inv .place)

@@ -21,7 +21,7 @@ add-take-line : tie.Need-add-take-line Inv-loop μ-loop
 add-take-line c = omega (arith, places-most (c .before .before .before .before .args .kind), c .before .before .before .before .pre)
 
 take-line-requires : tie.Need-take-line-requires Inv-loop μ-loop
-take-line-requires c κs = (search needs, record { place = search needs; long = search needs })
+take-line-requires c κs = record { start = search needs; figures = record { place = search needs; long = search needs } }
 
 enum-known-t : tie.Need-enum-known-t Inv-loop μ-loop
 enum-known-t c = search needs
