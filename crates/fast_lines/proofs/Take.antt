@@ -23,7 +23,8 @@ use Rattle.fast_fields.proofs.Number.{NumberAt}
 use Rattle.fast_fields.proofs.Line.{SoundAt, sound-at, sound-taken, Starts, fields-starts, stopAt, Taking, taking-none, taking-more, taking-last, taking-other}
 use Rattle.line_kinds.specs.declared.Kind.{Kind}
 use Rattle.line_kinds.specs.declared.Kind.the-variants.{Level, Change, Work}
-use Rattle.line_kinds.specs.Figures.{powerMax, steadyStateMax, costMax, decayMax, levelHi, changeHi, workLo, workHi, steadyFields, levelFields, changeFields, workFields, fieldsFor, put}
+use Rattle.frame.specs.Sheet.{powerMax, temperatureMax, costMax, decayMax}
+use Rattle.line_kinds.specs.Figures.{levelHi, changeHi, workLo, workHi, steadyFields, levelFields, changeFields, workFields, fieldsFor, put}
 use Rattle.line_kinds.proofs.Figures.{level-hot, level-sound, LineTaken}
 use Rattle.fast_lines.specs.declared.Next.{Next}
 use Rattle.fast_lines.specs.declared.Next.the-variants.{Line, Other}
@@ -122,14 +123,14 @@ module _ (resistance : ℕ) (s : List ℕ) (from k : ℕ) (old : List ℕ) where
     level-number e = left-number (Level resistance) 0 76 0 _ _ level-says s from k old power-next (omega arith) e
 
     module _ {a e : ℕ} (power : NumberAt s (from + 2) 10 0 powerMax a e) where
-      pub level-warm : steadyStateMax < steadyState a resistance → TakesLine (Level resistance) 0 s from k old old Other
+      pub level-warm : temperatureMax < steadyState a resistance → TakesLine (Level resistance) 0 s from k old old Other
       unfolding fieldsFor
       level-warm h =
           let l = taking-last power-next power in
           line-left (Level resistance) 0 s from k old (λ y.
           faulty 2 (ap (λ (r : Fields). r .fault) (level-hot resistance _ _ (sym (l .2)) refl h) ∙ y .sound))
 
-      pub level-taken : steadyState a resistance ≤ steadyStateMax → {new : List ℕ} → new ≡ put (Level resistance) k (set (replicate 10 0) 0 a) old →
+      pub level-taken : steadyState a resistance ≤ temperatureMax → {new : List ℕ} → new ≡ put (Level resistance) k (set (replicate 10 0) 0 a) old →
           TakesLine (Level resistance) 0 s from k old new (Line (e + 1))
       unfolding fieldsFor
       level-taken h q =

@@ -5,11 +5,11 @@ ghost use Rattle.line_kinds.specs.declared.Kind.the-variants.{Level, Change, Wo
 ghost use Rattle.fast_lines.specs.Take.{TakesLine};
 use fast_fields::DIGITS_TAKEN;
 use fast_fields::Taken;
-use line_kinds::COST_MAX;
-use line_kinds::DECAY_MAX;
 use line_kinds::Kind;
-use line_kinds::POWER_MAX;
 use line_kinds::STEADY_STATE_MAX;
+use store::COST_MAX;
+use store::DECAY_MAX;
+use store::POWER_MAX;
 use text::LINE_END;
 use text::TAB;
 

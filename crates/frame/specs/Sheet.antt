@@ -5,7 +5,7 @@
 -- jobs and levels, and whoever makes a `Sheet` of them keeps them in range beyond.
 -- Assumes nothing.
 use mathlib.Core.Path.{_≡_}
-use Prim.Native.Nat.{ℕ, _≤_, _<_}
+use Prim.Native.Nat.{ℕ, _*_, _≤_, _<_}
 use Rattle.thermal.specs.Thermal.{steadyState}
 
 -- What stands in a sheet, but for the jobs' names.
@@ -52,29 +52,63 @@ pub record Between (lo hi x : ℕ) : Type 0 where
   pub low : lo ≤ x
   pub high : x ≤ hi
 
--- The most that a job adds to time and to energy: its own and those of the change before it, each at most 10,000,000.
+-- The upper ends of the ranges. The constants of the crate `store` have the same names.
+-- "m (1 to 64)"
+abbrev pub jobsMax : ℕ
+jobsMax = 64
+
+-- "l (1 to 8)"
+abbrev pub levelsMax : ℕ
+levelsMax = 8
+
+-- "deadline D (0 to 2,000,000,000), ration W (same range)", "energy grain g (1 to 2,000,000,000)"
+abbrev pub limitMax : ℕ
+limitMax = 2000000000
+
+-- "ceiling C (0 to 20,000), start temperature (0 to 20,000)", "temperature grain h (1 to 20,000)"; the steady rise "must be at most
+-- 20,000"
+abbrev pub temperatureMax : ℕ
+temperatureMax = 20000
+
+-- "resistance R (0 to 20,000)"
+abbrev pub resistanceMax : ℕ
+resistanceMax = 20000
+
+-- "power P (0 to 100,000)"
+abbrev pub powerMax : ℕ
+powerMax = 100000
+
+-- A time or an energy: of a change "(each 0 to 10,000,000)", of a job "time (1 to 10,000,000), energy (0 to 10,000,000)".
+abbrev pub costMax : ℕ
+costMax = 10000000
+
+-- "decay (0 to 65,536)"
+abbrev pub decayMax : ℕ
+decayMax = 65536
+
+-- The most that a job adds to time and to energy: its own and those of the change before it.
 abbrev pub jobMost : ℕ
-jobMost = 20000000
+jobMost = 2 * costMax
 
 -- The ranges that document 01 gives the figures, line by line; `cool` is what refusal 5 leaves.
 pub record Ranges (s : Sheet) : Type 0 where
-  pub jobs : Between 1 64 s.jobs
-  pub levels : Between 1 8 s.levels
+  pub jobs : Between 1 jobsMax s.jobs
+  pub levels : Between 1 levelsMax s.levels
   pub startLevel : s.startLevel < s.levels
-  pub deadline : s.deadline ≤ 2000000000
-  pub energyBudget : s.energyBudget ≤ 2000000000
-  pub temperatureLimit : s.temperatureLimit ≤ 20000
-  pub startTemperature : s.startTemperature ≤ 20000
-  pub resistance : s.resistance ≤ 20000
-  pub energyStep : Between 1 2000000000 s.energyStep
-  pub temperatureStep : Between 1 20000 s.temperatureStep
-  pub power : (j : ℕ) → s.power j ≤ 100000
-  pub steady : (j : ℕ) → steadyOf s j ≤ 20000
-  pub changeTime : (p j : ℕ) → s.changeTime p j ≤ 10000000
-  pub changeEnergy : (p j : ℕ) → s.changeEnergy p j ≤ 10000000
+  pub deadline : s.deadline ≤ limitMax
+  pub energyBudget : s.energyBudget ≤ limitMax
+  pub temperatureLimit : s.temperatureLimit ≤ temperatureMax
+  pub startTemperature : s.startTemperature ≤ temperatureMax
+  pub resistance : s.resistance ≤ resistanceMax
+  pub energyStep : Between 1 limitMax s.energyStep
+  pub temperatureStep : Between 1 temperatureMax s.temperatureStep
+  pub power : (j : ℕ) → s.power j ≤ powerMax
+  pub steady : (j : ℕ) → steadyOf s j ≤ temperatureMax
+  pub changeTime : (p j : ℕ) → s.changeTime p j ≤ costMax
+  pub changeEnergy : (p j : ℕ) → s.changeEnergy p j ≤ costMax
   pub stay : (p : ℕ) → (s.changeTime p p ≡ 0) × (s.changeEnergy p p ≡ 0)
-  pub jobTime : (i j : ℕ) → s.jobTime i j ≤ 10000000
+  pub jobTime : (i j : ℕ) → s.jobTime i j ≤ costMax
   pub jobTime-least : (i j : ℕ) → i < s.jobs → j < s.levels → 1 ≤ s.jobTime i j
-  pub jobEnergy : (i j : ℕ) → s.jobEnergy i j ≤ 10000000
-  pub decay : (i j : ℕ) → s.decay i j ≤ 65536
+  pub jobEnergy : (i j : ℕ) → s.jobEnergy i j ≤ costMax
+  pub decay : (i j : ℕ) → s.decay i j ≤ decayMax
   pub cool : s.startTemperature ≤ s.temperatureLimit

@@ -8,7 +8,7 @@ use Rattle.text.specs.Text.{beyond}
 use Rattle.fields.specs.Fields.{Fields, opens, numbersFrom, fieldsOf, after}
 use Rattle.fields.specs.declared.Fault.the-variants.{Shape}
 use Rattle.store.specs.declared.Head.{Head}
-use Rattle.store.specs.Store.{jobsMax, levelsMax}
+use Rattle.frame.specs.Sheet.{jobsMax, levelsMax, limitMax, temperatureMax, resistanceMax}
 
 -- The figures of the V line and of the H line by their names.
 abbrev pub headAs : ℕ → List ℕ → Head
@@ -40,7 +40,7 @@ headLos = 1 ∷ 1 ∷ 0 ∷ 0 ∷ 0 ∷ 0 ∷ 0 ∷ 0 ∷ 1 ∷ 1 ∷ []
 -- temperature grain h (1 to 20,000)"; the start level's depends on l.
 abbrev pub headHis : ℕ → List ℕ
 headHis startLevel =
-    jobsMax ∷ levelsMax ∷ startLevel ∷ 2000000000 ∷ 2000000000 ∷ 20000 ∷ 20000 ∷ 20000 ∷ 2000000000 ∷ 20000 ∷ []
+    jobsMax ∷ levelsMax ∷ startLevel ∷ limitMax ∷ limitMax ∷ temperatureMax ∷ temperatureMax ∷ resistanceMax ∷ limitMax ∷ temperatureMax ∷ []
 
 -- The H line, byte 72: m and l, and then the others.
 unfoldable pub headFields : List ℕ → Fields

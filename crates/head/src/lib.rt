@@ -10,6 +10,9 @@ use fields::Numbers;
 use store::Head;
 use store::JOBS_MAX;
 use store::LEVELS_MAX;
+use store::LIMIT_MAX;
+use store::RESISTANCE_MAX;
+use store::TEMPERATURE_MAX;
 
 const VERSION: [u32; 10] = [1, 0, 0, 0, 0, 0, 0, 0, 0, 0];
 
@@ -19,13 +22,13 @@ const HEAD_HI: [u32; 10] = [
     JOBS_MAX as u32,
     LEVELS_MAX as u32,
     0,
-    2_000_000_000,
-    2_000_000_000,
-    20_000,
-    20_000,
-    20_000,
-    2_000_000_000,
-    20_000,
+    LIMIT_MAX,
+    LIMIT_MAX,
+    TEMPERATURE_MAX,
+    TEMPERATURE_MAX,
+    RESISTANCE_MAX,
+    LIMIT_MAX,
+    TEMPERATURE_MAX,
 ];
 
 // The version and the numbers of an H line by their names.

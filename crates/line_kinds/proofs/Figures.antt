@@ -18,7 +18,8 @@ use Rattle.fields.specs.declared.Fault.the-variants.{Sound, Range}
 use Rattle.fields.proofs.After.{Other, after-other}
 use Rattle.line_kinds.specs.declared.Kind.{Kind}
 use Rattle.line_kinds.specs.declared.Kind.the-variants.{Level, Change, Work}
-use Rattle.line_kinds.specs.Figures.{steadyStateMax, levelHi, changeHi, workLo, workHi, steadyFields, levelFields, changeFields, workFields, fieldsFor, put, placesOf}
+use Rattle.frame.specs.Sheet.{temperatureMax}
+use Rattle.line_kinds.specs.Figures.{levelHi, changeHi, workLo, workHi, steadyFields, levelFields, changeFields, workFields, fieldsFor, put, placesOf}
 
 -- ---- one line
 
@@ -27,14 +28,14 @@ module _ (resistance : ℕ) (line : List ℕ) (fields : Fields) (e : fields ≡ 
   unfolding levelFields steadyFields
   level-other h = rw (← e) (sym (after-other (fields .fault) fields _ h))
 
-  pub level-hot : fields .fault ≡ Sound → steadyStateMax < steadyState (getD (fields .values) 0 0) resistance →
+  pub level-hot : fields .fault ≡ Sound → temperatureMax < steadyState (getD (fields .values) 0 0) resistance →
       record { fault = Range 2; values = fields .values; rest = fields .rest } ≡ levelFields resistance line
   unfolding levelFields steadyFields
-  level-hot f h = rw (← e, f, lt-ltb steadyStateMax (steadyState (getD (fields .values) 0 0) resistance) h) refl
+  level-hot f h = rw (← e, f, lt-ltb temperatureMax (steadyState (getD (fields .values) 0 0) resistance) h) refl
 
-  pub level-sound : fields .fault ≡ Sound → steadyState (getD (fields .values) 0 0) resistance ≤ steadyStateMax → fields ≡ levelFields resistance line
+  pub level-sound : fields .fault ≡ Sound → steadyState (getD (fields .values) 0 0) resistance ≤ temperatureMax → fields ≡ levelFields resistance line
   unfolding levelFields steadyFields
-  level-sound f h = rw (← e, f, le-ltb steadyStateMax (steadyState (getD (fields .values) 0 0) resistance) h) refl
+  level-sound f h = rw (← e, f, le-ltb temperatureMax (steadyState (getD (fields .values) 0 0) resistance) h) refl
 
 module _ (kind : Kind) (j : ℕ) (line : List ℕ) (fields : Fields) where
   pub for-level : (resistance : ℕ) → kind ≡ Level resistance → fields ≡ levelFields resistance line → fields ≡ fieldsFor kind j line

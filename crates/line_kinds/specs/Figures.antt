@@ -7,26 +7,13 @@ use mathlib.Core.List.{List, _∷_}
 use Prim.Native.Nat.{ℕ, _+_, _<_}
 use lib.Dec.{eqb, ltb}
 use lib.ListN.{length, getD, set, replicate}
+use Rattle.frame.specs.Sheet.{temperatureMax, powerMax, costMax, decayMax}
 use Rattle.store.specs.Store.{levelsMax, changesMax, worksMax, powers, changeTimes, changeEnergies, jobTimes, jobEnergies, decays, storeSize}
 use Rattle.thermal.specs.Thermal.{steadyState}
 use Rattle.fields.specs.Fields.{Fields, fieldsOf, after}
 use Rattle.fields.specs.declared.Fault.the-variants.{Range}
 use Rattle.line_kinds.specs.declared.Kind.{Kind}
 use Rattle.line_kinds.specs.declared.Kind.the-variants.{Level, Change, Work}
-
--- The ends of the ranges. The constants of the code have the same names.
-abbrev pub powerMax : ℕ
-powerMax = 100000
-
-abbrev pub steadyStateMax : ℕ
-steadyStateMax = 20000
-
--- A time or an energy, of a change or of a job.
-abbrev pub costMax : ℕ
-costMax = 10000000
-
-abbrev pub decayMax : ℕ
-decayMax = 65536
 
 -- The ends of the ranges of a line's numbers: the upper ends of an L line's and of an S line's, and both of a B line's.
 abbrev pub levelHi : List ℕ
@@ -45,7 +32,7 @@ workHi = costMax ∷ costMax ∷ decayMax ∷ replicate 7 0
 unfoldable pub steadyFields : ℕ → Fields → Fields
 steadyFields resistance fields =
     after (fields .fault) fields
-    (cond (ltb steadyStateMax (steadyState (getD (fields .values) 0 0) resistance)) (record { fault = Range 2; values = fields .values; rest = fields .rest }) fields)
+    (cond (ltb temperatureMax (steadyState (getD (fields .values) 0 0) resistance)) (record { fault = Range 2; values = fields .values; rest = fields .rest }) fields)
 
 -- "L, power P (0 to 100,000)"; L is byte 76
 unfoldable pub levelFields : ℕ → List ℕ → Fields

@@ -8,10 +8,14 @@ use fields::Fault;
 use fields::Numbers;
 use store::CHANGE_ENERGIES;
 use store::CHANGE_TIMES;
+use store::COST_MAX;
 use store::DECAYS;
+use store::DECAY_MAX;
 use store::JOB_ENERGIES;
 use store::JOB_TIMES;
 use store::POWERS;
+use store::POWER_MAX;
+use store::TEMPERATURE_MAX;
 
 // Which lines: L, with the sheet's thermal resistance; S, of the changes from a level; B.
 pub enum Kind {
@@ -20,13 +24,8 @@ pub enum Kind {
     Work,
 }
 
-pub const POWER_MAX: u32 = 100_000; // document 01: "power P (0 to 100,000)"
-
-pub const STEADY_STATE_MAX: u64 = 20_000; // document 01: "It must be at most 20,000"
-
-pub const COST_MAX: u32 = 10_000_000; // document 01: the range of a time or an energy, of a change or of a job
-
-pub const DECAY_MAX: u32 = 65_536; // document 01: "decay (0 to 65,536)"
+// The steady-state temperature "must be at most 20,000".
+pub const STEADY_STATE_MAX: u64 = TEMPERATURE_MAX as u64;
 
 const LEVEL_HI: [u32; 10] = [POWER_MAX, 0, 0, 0, 0, 0, 0, 0, 0, 0];
 

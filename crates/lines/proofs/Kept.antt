@@ -18,7 +18,8 @@ use Rattle.fields.proofs.Within.{faulty, shapeless, fields-held, cond-cases}
 use Rattle.fields.proofs.After.{after-cases}
 use Rattle.line_kinds.specs.declared.Kind.{Kind}
 use Rattle.line_kinds.specs.declared.Kind.the-variants.{Level, Change, Work}
-use Rattle.line_kinds.specs.Figures.{powerMax, steadyStateMax, costMax, decayMax, levelHi, changeHi, workLo, workHi, steadyFields, levelFields, changeFields, workFields, fieldsFor, put, placesOf}
+use Rattle.frame.specs.Sheet.{powerMax, temperatureMax, costMax, decayMax}
+use Rattle.line_kinds.specs.Figures.{levelHi, changeHi, workLo, workHi, steadyFields, levelFields, changeFields, workFields, fieldsFor, put, placesOf}
 use Rattle.line_kinds.proofs.Figures.{put-length}
 use Rattle.lines.specs.Lines.{Found, blockFrom}
 
@@ -27,7 +28,7 @@ use Rattle.lines.specs.Lines.{Found, blockFrom}
 -- "L, power P (0 to 100,000)", with its steady-state temperature.
 record Powered (resistance : ℕ) (vs : List ℕ) : Type 0 where
   power : getD vs 0 0 ≤ powerMax
-  steady : steadyState (getD vs 0 0) resistance ≤ steadyStateMax
+  steady : steadyState (getD vs 0 0) resistance ≤ temperatureMax
 
 level-held : (resistance : ℕ) (line : List ℕ) → (levelFields resistance line) .fault ≡ Sound → Powered resistance ((levelFields resistance line) .values)
 unfolding levelFields steadyFields
@@ -35,7 +36,7 @@ level-held resistance line =
     let fields = fieldsOf 76 1 (replicate 10 0) levelHi line in
     let P : Fields → Type 0 = λ r. r .fault ≡ Sound → Powered resistance (r .values) in
     after-cases P (fields .fault) _ _ (λ n e. absurd (n e))
-    (λ s. cond-cases P (ltb steadyStateMax (steadyState (getD (fields .values) 0 0) resistance)) _ _ (λ t e. absurd (faulty 2 e))
+    (λ s. cond-cases P (ltb temperatureMax (steadyState (getD (fields .values) 0 0) resistance)) _ _ (λ t e. absurd (faulty 2 e))
     (λ t e.
     let h = fields-held 76 1 (replicate 10 0) levelHi line (omega arith) s in
     record { power = h .high 0 (omega arith) (omega arith); steady = ltb-false _ _ t }))
@@ -153,7 +154,7 @@ module _ (Q : ℕ → ℕ → Type 0) where
 -- A figure v at place k of the store lies in its range.
 pub record Fits (resistance k v : ℕ) : Type 0 where
   pub power : k < changeTimes → v ≤ powerMax
-  pub steady : k < changeTimes → steadyState v resistance ≤ steadyStateMax
+  pub steady : k < changeTimes → steadyState v resistance ≤ temperatureMax
   pub cost : changeTimes ≤ k → k < decays → v ≤ costMax
   pub stay-time : (p : ℕ) → p < levelsMax → k ≡ changeTimes + (p * levelsMax + p) → v ≡ 0
   pub stay-energy : (p : ℕ) → p < levelsMax → k ≡ changeEnergies + (p * levelsMax + p) → v ≡ 0

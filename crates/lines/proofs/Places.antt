@@ -13,7 +13,8 @@ use Rattle.fields.proofs.After.{after-cases}
 use Rattle.fields.proofs.Faults.{fieldIn, FieldLe, fields-field}
 use Rattle.line_kinds.specs.declared.Kind.{Kind}
 use Rattle.line_kinds.specs.declared.Kind.the-variants.{Level, Change, Work}
-use Rattle.line_kinds.specs.Figures.{steadyStateMax, levelHi, steadyFields, levelFields, changeFields, workFields, fieldsFor, put}
+use Rattle.frame.specs.Sheet.{temperatureMax}
+use Rattle.line_kinds.specs.Figures.{levelHi, steadyFields, levelFields, changeFields, workFields, fieldsFor, put}
 use Rattle.lines.specs.Lines.{Found, blockFrom}
 
 -- A line of a kind.
@@ -23,7 +24,7 @@ for-field (Level resistance) j line =
     let fields = fieldsOf 76 1 (replicate 10 0) levelHi line in
     let h = fields-field 76 1 (replicate 10 0) levelHi line (omega arith) in
     after-cases FieldLe (fields .fault) _ _ (λ o. h)
-    (λ s. cond-cases FieldLe (ltb steadyStateMax (steadyState (getD (fields .values) 0 0) resistance)) _ _ (λ c. omega arith) (λ c. h))
+    (λ s. cond-cases FieldLe (ltb temperatureMax (steadyState (getD (fields .values) 0 0) resistance)) _ _ (λ c. omega arith) (λ c. h))
 for-field (Change p) j line = fields-field 83 2 _ _ line (omega arith)
 for-field Work j line = fields-field 66 3 _ _ line (omega arith)
 

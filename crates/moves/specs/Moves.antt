@@ -8,11 +8,10 @@ use Prim.Native.Nat.{ℕ, _+_, _*_, _-_, _/_, _%_, _≤_, _<_}
 use lib.Dec.{ltb}
 use lib.ListN.{length, getD}
 use Rattle.thermal.specs.Rounding.{ceilDiv}
-use Rattle.frame.specs.Sheet.{Sheet}
+use Rattle.frame.specs.Sheet.{Sheet, limitMax}
 use Rattle.frame.specs.Run.{State, fresh, step}
 use Rattle.frame.specs.Table.{temperatureCells}
 use Rattle.store.specs.Store.{changesMax}
-use Rattle.step.specs.Store.{limitMax}
 use Rattle.table.specs.declared.Frame.{Frame}
 use Rattle.moves.specs.declared.Move.{Move}
 

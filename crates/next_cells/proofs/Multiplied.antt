@@ -4,7 +4,7 @@ use mathlib.Core.Path.{_≡_, ap, _∙_}
 use Prim.Native.Nat.{ℕ, _+_, _*_, _-_, _/_, _≤_, _<_}
 use native.Mathlib.Nat.{add-mul, mul-add, mul-assoc, mul-comm, mul-le-mul-left, mul-le-mul-right, lt-div-mul-add, div-mul-le-self, le-div-iff-mul-le, div-eq-of-lt-le}
 use native.Mathlib.Omega.{arith}
-use Rattle.step.specs.Store.{temperatureMax}
+use Rattle.frame.specs.Sheet.{temperatureMax}
 use Rattle.next_cells.specs.Next.{scale, multiplierOf}
 
 module _ (n h : ℕ) (some : 0 < h) (small : h ≤ temperatureMax) (few : n ≤ 100000) where

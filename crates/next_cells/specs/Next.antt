@@ -6,10 +6,9 @@ use mathlib.Core.Bool.{cond}
 use Prim.Native.Nat.{ℕ, _+_, _*_, _/_, _≤_}
 use lib.Dec.{leb}
 use Rattle.thermal.specs.Rounding.{ceilDiv}
-use Rattle.frame.specs.Sheet.{Sheet}
+use Rattle.frame.specs.Sheet.{Sheet, temperatureMax}
 use Rattle.frame.specs.Run.{fresh, step}
 use Rattle.frame.specs.Table.{temperatureCells}
-use Rattle.step.specs.Store.{temperatureMax}
 use Rattle.table.specs.declared.Frame.{Frame}
 use Rattle.table.specs.Table.{wordsMax}
 

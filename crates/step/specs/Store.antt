@@ -6,20 +6,12 @@ use mathlib.Core.List.{List}
 use Prim.Native.Nat.{ℕ, _+_, _*_, _≤_, _<_, _^_}
 use lib.ListN.{getD}
 use Rattle.thermal.specs.Thermal.{steadyState, RuleDomain}
-use Rattle.frame.specs.Sheet.{Sheet, Ranges, steadyOf}
+use Rattle.frame.specs.Sheet.{Sheet, Ranges, steadyOf, limitMax, temperatureMax}
 use Rattle.frame.specs.Table.{tabulate}
 use Rattle.store.specs.Store.{jobsMax, levelsMax, powers, changeTimes, changeEnergies, jobTimes, jobEnergies, decays}
 use Rattle.run.specs.declared.Run.{Run}
 use Rattle.run.specs.declared.Change.{Change}
 use Rattle.run.specs.declared.Job.{Job}
-
--- "deadline D (0 to 2,000,000,000), ration W (same range)"
-abbrev pub limitMax : ℕ
-limitMax = 2000000000
-
--- "ceiling C (0 to 20,000)", and the steady rise "must be at most 20,000"
-abbrev pub temperatureMax : ℕ
-temperatureMax = 20000
 
 -- "The level's steady rise is P × R / 10,000 to the nearest whole number", for each level that there can be.
 unfoldable pub steadies : List ℕ → ℕ → List ℕ

@@ -2,14 +2,7 @@
 -- sheet'). The constants of the code have the same names.
 -- Assumes nothing.
 use Prim.Native.Nat.{ℕ, _+_, _*_}
-
--- "m (1 to 64)"
-abbrev pub jobsMax : ℕ
-jobsMax = 64
-
--- "l (1 to 8)"
-abbrev pub levelsMax : ℕ
-levelsMax = 8
+pub use Rattle.frame.specs.Sheet.{jobsMax, levelsMax}
 
 -- Changes: "by level left and then level entered".
 abbrev pub changesMax : ℕ

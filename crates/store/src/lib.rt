@@ -16,10 +16,28 @@ pub struct Head {
     pub temperature_step: u32,
 }
 
-// "m (1 to 64), l (1 to 8)"
+// The upper ends of the ranges, by the names that the definitions have for them: "m (1 to 64), l (1 to 8)".
 pub const JOBS_MAX: usize = 64;
 
 pub const LEVELS_MAX: usize = 8;
+
+// A deadline, an energy budget, an energy step: "to 2,000,000,000".
+pub const LIMIT_MAX: u32 = 2_000_000_000;
+
+// A temperature limit, a start temperature, a temperature step, a steady-state temperature: "to 20,000".
+pub const TEMPERATURE_MAX: u32 = 20_000;
+
+// "resistance R (0 to 20,000)"
+pub const RESISTANCE_MAX: u32 = 20_000;
+
+// "power P (0 to 100,000)"
+pub const POWER_MAX: u32 = 100_000;
+
+// A time or an energy, of a change or of a job: "to 10,000,000".
+pub const COST_MAX: u32 = 10_000_000;
+
+// "decay (0 to 65,536)"
+pub const DECAY_MAX: u32 = 65_536;
 
 // Changes from a level to a level, and jobs at a level.
 pub const CHANGES_MAX: usize = LEVELS_MAX * LEVELS_MAX;

@@ -6,11 +6,11 @@ use mathlib.Core.List.{List}
 use Prim.Native.Nat.{ℕ, _+_, _*_, _≤_, _<_}
 use lib.ListN.{getD}
 use Rattle.thermal.specs.Thermal.{raisedTemperatureMax}
-use Rattle.frame.specs.Sheet.{Sheet, Ranges}
+use Rattle.frame.specs.Sheet.{Sheet, Ranges, limitMax}
 use Rattle.frame.specs.Run.{State, fresh, raised}
 use Rattle.frame.specs.Table.{energyCells, temperatureCells, need, place, word}
 use Rattle.run.specs.declared.Run.{Run}
-use Rattle.step.specs.Store.{limitMax, Stored}
+use Rattle.step.specs.Store.{Stored}
 use Rattle.table.specs.declared.Frame.{Frame}
 pub use Rattle.frame.specs.Table.{wordsMax}
 

@@ -1,7 +1,7 @@
 ghost use mathlib.Core.Path.{_≡_};
 ghost use Prim.Native.Nat.{_≤_};
 ghost use Rattle.thermal.specs.Rounding.{ceilDiv};
-ghost use Rattle.step.specs.Store.{limitMax};
+ghost use Rattle.frame.specs.Sheet.{limitMax};
 use store::Head;
 
 // "need above 4,194,304 words" is refused.

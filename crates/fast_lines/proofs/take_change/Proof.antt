@@ -10,7 +10,7 @@ use borrow.Author.Needs.{needs}
 use borrow.Author.Tests.{not-true, not-false}
 use Rattle.fast_fields.proofs.Number.{NumberAt, taken-number}
 use Rattle.fast_fields.proofs.Line.{Starts, starts-is}
-use Rattle.line_kinds.specs.Figures.{costMax}
+use Rattle.frame.specs.Sheet.{costMax}
 use Rattle.fast_lines.specs.Take.{roomFor}
 use Rattle.fast_lines.proofs.Take.{most-self, most-other, change-unstarted, change-time, change-energy, change-taken}
 use Rattle.fast_lines.proofs.take_change.Statement.{statement}
