@@ -14,13 +14,12 @@ use Rattle.frame.specs.Limits.{tightened}
 use Rattle.frame.specs.Demands as frame
 use Rattle.frame.specs.Demands.{Outcome, planned, noPlan, Figures, figures}
 use Rattle.frame.specs.Plan.{frameOutcome}
-use Rattle.frame.specs.Table.{need}
+use Rattle.frame.specs.Table.{need, wordsMax}
 use Rattle.frame.proofs.Demand3.{frame-demand2, frame-demand3}
 use Rattle.refusal.specs.declared.Refusal.{Refusal}
 use Rattle.refusal.specs.Code.{numberOf, lineOf, fieldOf, accepted}
 use Rattle.refusal.proofs.Apart.{accepted-refused}
 use Rattle.sheet.specs.Reading.{readingOf, sheetIn}
-use Rattle.table.specs.Table.{wordsMax}
 use Rattle.sheet.proofs.Ranges.{read-ranges}
 use Rattle.reply.specs.declared.Reply.{Reply}
 use Rattle.reply.specs.Answer.{refused, found, refusedReply, plannedAs, Answers}

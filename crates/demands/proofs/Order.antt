@@ -6,14 +6,13 @@ use Prim.Native.Nat.{ℕ, _≤_, _<_}
 use borrow.Author.Tests.{lt-ltb, le-ltb}
 use lib.ListN.{length}
 use Rattle.frame.specs.Sheet.{Sheet}
-use Rattle.frame.specs.Table.{need}
+use Rattle.frame.specs.Table.{need, wordsMax}
 use Rattle.store.specs.Figures.{sheetOf}
 use Rattle.refusal.specs.declared.Refusal.{Refusal}
 use Rattle.refusal.specs.declared.Refusal.the-variants.{Nothing}
 use Rattle.refusal.specs.Code.{numberOf, lineOf, fieldOf, accepted}
 use Rattle.refusal.proofs.Apart.{Refuses, refuses-some, accepted-refused}
 use Rattle.sheet.specs.Reading.{SheetRead, readingOf}
-use Rattle.table.specs.Table.{wordsMax}
 use Rattle.reply.specs.declared.Reply.{Reply}
 use Rattle.reply.specs.Answer.{refused, refusedReply, Answers}
 use Rattle.demands.specs.Order.{frameFound, answerFor, turnedAway, answerTo, answerOf}

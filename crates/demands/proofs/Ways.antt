@@ -14,7 +14,7 @@ use Rattle.frame.specs.Demands.{Outcome, planned, noPlan}
 use Rattle.frame.specs.Demands as frame
 use Rattle.frame.specs.Limits.{tightened}
 use Rattle.frame.specs.Plan.{frameOutcome}
-use Rattle.frame.specs.Table.{need}
+use Rattle.frame.specs.Table.{need, wordsMax}
 use Rattle.frame.proofs.Run.{meets-peak}
 use Rattle.frame.proofs.Demand3.{frame-demand3}
 use Rattle.refusal.specs.declared.Refusal.the-variants.{Nothing}
@@ -22,7 +22,6 @@ use Rattle.refusal.specs.Code.{numberOf}
 use Rattle.refusal.proofs.Apart.{accepted-ways}
 use Rattle.fields.proofs.Within.{cond-cases}
 use Rattle.sheet.specs.Reading.{readingOf, sheetIn}
-use Rattle.table.specs.Table.{wordsMax}
 use Rattle.sheet.proofs.Ranges.{read-ranges}
 use Rattle.reply.specs.declared.Reply.{Reply}
 use Rattle.reply.specs.Answer.{Answer, refused, found, replyOf, PeakOf, tableAfter, partAfter, Answers}

@@ -10,11 +10,10 @@ use Rattle.frame.specs.Sheet.{Sheet, Between}
 use Rattle.frame.specs.Run.{start, exact, exactRun}
 use Rattle.frame.specs.Limits.{Meets, limits, tightened}
 use Rattle.frame.specs.Demands.{LevelList, Keeps, Best, Tight, endTime, figures}
-use Rattle.frame.specs.Table.{need}
+use Rattle.frame.specs.Table.{need, wordsMax}
 use Rattle.refusal.specs.declared.Refusal.the-variants.{Nothing}
 use Rattle.refusal.specs.Code.{numberOf, lineOf, fieldOf}
 use Rattle.sheet.specs.Reading.{readingOf, sheetIn}
-use Rattle.table.specs.Table.{wordsMax}
 use Rattle.reply.specs.declared.Reply.{Reply}
 use Rattle.reply.specs.Answer.{refusedReply}
 

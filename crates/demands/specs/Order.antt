@@ -8,12 +8,11 @@ use lib.Dec.{ltb}
 use Rattle.frame.specs.Sheet.{Sheet}
 use Rattle.frame.specs.Run.{start}
 use Rattle.frame.specs.Plan.{frameOutcome}
-use Rattle.frame.specs.Table.{need}
+use Rattle.frame.specs.Table.{need, wordsMax}
 use Rattle.store.specs.Figures.{sheetOf}
 use Rattle.refusal.specs.declared.Refusal.{Refusal}
 use Rattle.refusal.specs.Code.{numberOf, lineOf, fieldOf, accepted}
 use Rattle.sheet.specs.Reading.{SheetRead, readingOf}
-use Rattle.table.specs.Table.{wordsMax}
 use Rattle.reply.specs.Answer.{Answer, refused, found}
 
 -- What is found for the sheet's own frame: all its jobs, from its start.

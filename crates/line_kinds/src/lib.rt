@@ -9,12 +9,12 @@ use fields::Numbers;
 use store::CHANGE_ENERGIES;
 use store::CHANGE_TIMES;
 use store::COST_MAX;
-use store::DECAYS;
 use store::DECAY_MAX;
+use store::DECAYS;
 use store::JOB_ENERGIES;
 use store::JOB_TIMES;
-use store::POWERS;
 use store::POWER_MAX;
+use store::POWERS;
 use store::TEMPERATURE_MAX;
 
 // Which lines: L, with the sheet's thermal resistance; S, of the changes from a level; B.

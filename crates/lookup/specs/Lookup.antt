@@ -9,10 +9,10 @@ use lib.ListN.{getD}
 use Rattle.thermal.specs.Rounding.{ceilDiv}
 use Rattle.frame.specs.Sheet.{Sheet}
 use Rattle.frame.specs.Run.{State}
-use Rattle.frame.specs.Table.{place}
+use Rattle.frame.specs.Table.{place, wordsMax}
 use Rattle.run.specs.declared.Run.{Run}
 use Rattle.table.specs.declared.Frame.{Frame}
-use Rattle.table.specs.Table.{wordsMax, Raises}
+use Rattle.table.specs.Table.{Raises}
 
 -- The place of the cell to which a state is raised.
 unfoldable pub placeFor : Sheet → State → ℕ

@@ -10,11 +10,11 @@ use lib.ListN.{length, getD, set}
 use lib.Seq.{getD-set-same, getD-set-other}
 use Rattle.thermal.specs.Rounding.{ceilDiv}
 use Rattle.frame.specs.Sheet.{Sheet}
-use Rattle.frame.specs.Table.{energyCells}
+use Rattle.frame.specs.Table.{energyCells, wordsMax}
 use Rattle.frame.proofs.Table.{digit-lt, digit-div, digit-mod}
 use Rattle.store.specs.Store.{levelsMax, changesMax}
 use Rattle.table.specs.declared.Frame.{Frame}
-use Rattle.table.specs.Table.{wordsMax, Axes}
+use Rattle.table.specs.Table.{Axes}
 use Rattle.table.proofs.Cells.{cells-small}
 use Rattle.moves.specs.declared.Move.{Move}
 use Rattle.moves.specs.Moves.{moved, shiftOf, reachOf, moveOf, Counts, Room, Moves}

@@ -7,13 +7,13 @@ use native.Mathlib.Nat.{mul-le-mul, le-mul-of-pos-right}
 use native.Mathlib.Omega.{arith}
 use Rattle.thermal.specs.Rounding.{ceilDiv}
 use Rattle.thermal.proofs.Rounding.{ceil-least}
-use Rattle.frame.specs.Sheet.{Sheet, Ranges}
-use Rattle.frame.specs.Table.{energyCells, temperatureCells, need}
+use Rattle.frame.specs.Sheet.{Sheet, Ranges, limitMax, temperatureMax}
+use Rattle.frame.specs.Table.{energyCells, temperatureCells, need, wordsMax}
 use Rattle.store.specs.declared.Head.{Head}
 use Rattle.store.specs.Store.{jobsMax, levelsMax, worksMax}
 use Rattle.store.specs.Figures.{sheetOf}
 use Rattle.table.specs.declared.Frame.{Frame}
-use Rattle.table.specs.Table.{wordsMax, Axes}
+use Rattle.table.specs.Table.{Axes}
 use Rattle.need.specs.Axes.{Lawful, bare, axesOf}
 
 -- A quotient that is rounded up is no larger than what is divided.
@@ -46,7 +46,7 @@ module _ (h : Head) (store : List ℕ) (ok : Ranges (sheetOf h store)) where
         allowed = n;
       }
 
-  cells-most : (axesOf h .«energy_cells» ≤ 2000000001) × (axesOf h .«temperature_cells» ≤ 20001)
+  cells-most : (axesOf h .«energy_cells» ≤ limitMax + 1) × (axesOf h .«temperature_cells» ≤ temperatureMax + 1)
   unfolding sheetOf energyCells temperatureCells
   cells-most = (
     omega (arith, ceil-most (h .«energy_budget») (h .«energy_step») (ok .energyStep .low), ok .energyBudget),
@@ -59,13 +59,13 @@ module _ (h : Head) (store : List ℕ) (ok : Ranges (sheetOf h store)) where
 
   -- The need stays below 2 ^ 63 on every sheet that is read.
   pub need-small : let f = axesOf h in
-      (h .jobs * h .levels ≤ worksMax) × (h .jobs * h .levels * f .«energy_cells» ≤ worksMax * 2000000001) ×
+      (h .jobs * h .levels ≤ worksMax) × (h .jobs * h .levels * f .«energy_cells» ≤ worksMax * (limitMax + 1)) ×
       (h .jobs * h .levels * f .«energy_cells» * f .«temperature_cells» < 2 ^ 63)
   need-small =
       let f = axesOf h in
       let j : h .jobs * h .levels ≤ jobsMax * levelsMax = mul-le-mul (counts-most .0) (counts-most .1) in
-      let k : h .jobs * h .levels * f .«energy_cells» ≤ jobsMax * levelsMax * 2000000001 = mul-le-mul j (cells-most .0) in
-      let l : h .jobs * h .levels * f .«energy_cells» * f .«temperature_cells» ≤ jobsMax * levelsMax * 2000000001 * 20001 = mul-le-mul k (cells-most .1) in
+      let k : h .jobs * h .levels * f .«energy_cells» ≤ jobsMax * levelsMax * (limitMax + 1) = mul-le-mul j (cells-most .0) in
+      let l : h .jobs * h .levels * f .«energy_cells» * f .«temperature_cells» ≤ jobsMax * levelsMax * (limitMax + 1) * (temperatureMax + 1) = mul-le-mul k (cells-most .1) in
       (omega (arith, j), omega (arith, k), omega (arith, l))
 
   -- A need fits a signed 64-bit number.

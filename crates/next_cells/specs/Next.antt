@@ -8,9 +8,8 @@ use lib.Dec.{leb}
 use Rattle.thermal.specs.Rounding.{ceilDiv}
 use Rattle.frame.specs.Sheet.{Sheet, temperatureMax}
 use Rattle.frame.specs.Run.{fresh, step}
-use Rattle.frame.specs.Table.{temperatureCells}
+use Rattle.frame.specs.Table.{temperatureCells, wordsMax}
 use Rattle.table.specs.declared.Frame.{Frame}
-use Rattle.table.specs.Table.{wordsMax}
 
 -- 2 ^ 32, the scale of a multiplier that stands for a division.
 abbrev pub scale : ℕ

@@ -13,11 +13,11 @@ use Rattle.thermal.specs.Rounding.{ceilDiv, raise}
 use Rattle.thermal.proofs.Rounding.{raise-le, raise-multiple, raise-warmest}
 use Rattle.frame.specs.Run.{raised}
 use Rattle.run.specs.declared.Run.{Run}
-use Rattle.frame.specs.Table.{energyCells, temperatureCells, need, place, cell, wordAt, tabulate, filled}
+use Rattle.frame.specs.Table.{energyCells, temperatureCells, need, place, cell, wordAt, tabulate, filled, wordsMax}
 use Rattle.frame.proofs.Table.{place-lt, word-at}
 use Rattle.frame.proofs.Tabulate.{length-tabulate, getD-tabulate}
 use Rattle.table.specs.declared.Frame.{Frame}
-use Rattle.table.specs.Table.{wordsMax, raisedEnergyMax, Axes, AtCell, Raises, cells, Holds}
+use Rattle.table.specs.Table.{raisedEnergyMax, Axes, AtCell, Raises, cells, Holds}
 
 module _ (s : Sheet) where
   -- The words of m jobs done come after those of fewer.

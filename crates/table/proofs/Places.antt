@@ -6,9 +6,9 @@ use Prim.Native.Nat.{ℕ, suc, _+_, _*_, _-_, _/_, _%_, _≤_, _<_}
 use native.Mathlib.Nat.{add-mul, add-zero, zero-mul, mul-assoc, mul-le-mul-right, le-mul-of-pos-right, div-add-mod', div-lt-iff-lt-mul, mod-lt}
 use native.Mathlib.Omega.{arith}
 use Rattle.frame.specs.Sheet.{Sheet}
-use Rattle.frame.specs.Table.{energyCells, temperatureCells, need, place}
+use Rattle.frame.specs.Table.{energyCells, temperatureCells, need, place, wordsMax}
 use Rattle.table.specs.declared.Frame.{Frame}
-use Rattle.table.specs.Table.{wordsMax, Axes, cells, base}
+use Rattle.table.specs.Table.{Axes, cells, base}
 
 module _ (s : Sheet) where
   pub width-some : 0 < temperatureCells s

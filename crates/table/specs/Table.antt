@@ -8,11 +8,10 @@ use lib.ListN.{getD}
 use Rattle.thermal.specs.Thermal.{raisedTemperatureMax}
 use Rattle.frame.specs.Sheet.{Sheet, Ranges, limitMax}
 use Rattle.frame.specs.Run.{State, fresh, raised}
-use Rattle.frame.specs.Table.{energyCells, temperatureCells, need, place, word}
+use Rattle.frame.specs.Table.{energyCells, temperatureCells, need, wordsMax, place, word}
 use Rattle.run.specs.declared.Run.{Run}
 use Rattle.step.specs.Store.{Stored}
 use Rattle.table.specs.declared.Frame.{Frame}
-pub use Rattle.frame.specs.Table.{wordsMax}
 
 -- A raised energy is below W and one step more, each at most 2,000,000,000.
 abbrev pub raisedEnergyMax : ℕ

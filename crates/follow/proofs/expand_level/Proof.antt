@@ -3,9 +3,9 @@ use Prim.Native.Nat.{_+_, _*_, _≤_}
 use native.Mathlib.Omega.{arith}
 use denote.Ref.{now}
 use borrow.Author.Needs.{needs}
-use Rattle.frame.specs.Table.{need}
+use Rattle.frame.specs.Table.{need, wordsMax}
 use Rattle.store.specs.Figures.{sheetOf}
-use Rattle.table.specs.Table.{wordsMax, cells}
+use Rattle.table.specs.Table.{cells}
 use Rattle.table.proofs.Places.{rows-some, columns-some, cells-by, job-by, one-level, last-row, at-is, at-need, at-small, row-small, next-is, next-need, job-small}
 use Rattle.follow.proofs.Laying.{map-rising, gathered-laid, finished-laid}
 use Rattle.follow.proofs.expand_level.Statement.{statement}

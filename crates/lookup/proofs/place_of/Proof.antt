@@ -3,7 +3,7 @@ use mathlib.Core.Path.{_≡_}
 use Prim.Native.Nat.{ℕ, _+_, _*_, _<_}
 use native.Mathlib.Nat.{le-mul-of-pos-right}
 use native.Mathlib.Omega.{arith}
-use Rattle.table.specs.Table.{wordsMax}
+use Rattle.frame.specs.Table.{wordsMax}
 use Rattle.lookup.specs.Lookup.{placeBy}
 use borrow.Author.Needs.{needs}
 use Rattle.lookup.proofs.place_of.Statement.{statement}

@@ -9,7 +9,7 @@ use Rattle.frame.specs.Run.{State, step}
 use Rattle.store.specs.Figures.{sheetOf}
 use Rattle.run.specs.Run.{stateOf}
 use Rattle.step.proofs.Store.{rests}
-use Rattle.table.specs.Table.{wordsMax}
+use Rattle.frame.specs.Table.{wordsMax}
 use Rattle.moves.specs.declared.Move.{Move}
 use Rattle.moves.specs.Moves.{moved, moveOf}
 use Rattle.moves.proofs.Reach.{moved-time, moved-energy}

@@ -1,7 +1,8 @@
 -- The need of a lawful head: each product fits, by `need-small`.
 use mathlib.Core.Path.{_≡_, refl}
-use Prim.Native.Nat.{_*_, _≤_, _<_, _^_}
+use Prim.Native.Nat.{_+_, _*_, _≤_, _<_, _^_}
 use native.Mathlib.Omega.{arith}
+use Rattle.frame.specs.Sheet.{limitMax}
 use Rattle.store.specs.Store.{worksMax}
 use Rattle.need.proofs.Axes.{need-small, need-is}
 use borrow.Author.Needs.{needs}
@@ -10,7 +11,7 @@ use Rattle.need.proofs.need_of.Tie as tie
 
 -- The products by the axes that are handed over.
 small : (c : tie.Start) → let f = c .args .f in
-    (f .head .jobs * f .head .levels ≤ worksMax) × (f .head .jobs * f .head .levels * f .«energy_cells» ≤ worksMax * 2000000001) ×
+    (f .head .jobs * f .head .levels ≤ worksMax) × (f .head .jobs * f .head .levels * f .«energy_cells» ≤ worksMax * (limitMax + 1)) ×
     (f .head .jobs * f .head .levels * f .«energy_cells» * f .«temperature_cells» < 2 ^ 63)
 small c = let h = c .pre .lawful in rw (c .pre .axes) (need-small (c .args .f .head) (h .store) (h .ranges))
 
