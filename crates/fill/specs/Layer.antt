@@ -3,18 +3,12 @@
 -- Assumes nothing.
 use mathlib.Core.Path.{_≡_}
 use mathlib.Core.List.{List}
-use Prim.Native.Nat.{ℕ, suc, _*_, _-_, _/_, _%_, _≤_, _<_}
+use Prim.Native.Nat.{ℕ, suc, _-_, _/_, _%_, _≤_, _<_}
 use lib.ListN.{length, getD}
 use Rattle.frame.specs.Sheet.{Sheet}
 use Rattle.frame.specs.Plan.{leastOf, via, least}
 use Rattle.frame.specs.Table.{temperatureCells, need, cell, wordAt}
-use Rattle.store.specs.Store.{levelsMax}
 use Rattle.word.specs.Word.{near}
-use Rattle.one_level.specs.Level.{partSize}
-
--- Scratch for the words that are worked on at once, of every level that there can be.
-abbrev pub scratchSize : ℕ
-scratchSize = partSize * levelsMax
 
 -- Of the ways by the first k levels from a cell, the least time.
 unfoldable pub upTo : Sheet → ℕ → ℕ → ℕ → ℕ → ℕ → ℕ

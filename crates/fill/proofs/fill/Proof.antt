@@ -9,7 +9,8 @@ use Rattle.store.specs.Store.{changesMax}
 use Rattle.store.specs.Figures.{sheetOf}
 use Rattle.table.specs.Table.{base}
 use Rattle.table.proofs.Places.{base-mono, base-need, base-zero}
-use Rattle.fill.specs.Layer.{scratchSize, FilledFrom}
+use Rattle.one_level.specs.Level.{scratchSize}
+use Rattle.fill.specs.Layer.{FilledFrom}
 use Rattle.fill.proofs.Filling.{filled-none, filled-self, filled-trans, filled-all}
 use Rattle.fill.proofs.fill.Statement.{statement}
 use Rattle.fill.proofs.fill.Tie as tie
