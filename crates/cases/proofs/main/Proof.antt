@@ -1,3 +1,5 @@
+-- Each case starts behind the one before, so that the input ends; nothing is promised of what is printed.
+-- Assumes nothing.
 use Prim.Native.Nat.{_-_}
 use lib.ListN.{length}
 use borrow.Author.Needs.{needs}

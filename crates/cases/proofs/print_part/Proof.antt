@@ -1,3 +1,5 @@
+-- Places stay within the part and its digits; nothing is promised of what is printed.
+-- Assumes nothing.
 use mathlib.Core.Path.{_≡_}
 use Prim.Native.Nat.{_-_, _≤_}
 use lib.ListN.{length}

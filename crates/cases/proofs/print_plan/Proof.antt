@@ -1,3 +1,5 @@
+-- The lent parts lie within the table and the part; nothing is promised of what is printed.
+-- Assumes nothing.
 use native.Mathlib.Omega.{arith}
 use lib.ListN.{length-take}
 use borrow.Author.Needs.{needs}

@@ -1,3 +1,5 @@
+-- A number's size fits, whatever its sign; nothing is promised of what is printed.
+-- Assumes nothing.
 use borrow.Author.Needs.{needs}
 use Rattle.cases.proofs.Negative.{taken-fits, taken-natural, size-fits, natural}
 use Rattle.cases.proofs.print_signed.Statement.{statement}

@@ -1,3 +1,5 @@
+-- Places stay within the table; of the figure itself nothing is promised.
+-- Assumes nothing.
 use Prim.Native.Nat.{_-_, _≤_}
 use borrow.Author.Needs.{needs}
 use Rattle.cases.proofs.weigh.Statement.{statement}

@@ -1,3 +1,5 @@
+-- The sheet handed on is what was read, within the buffer.
+-- Assumes nothing.
 use Prim.Native.Nat.{_≤_}
 use mathlib.Core.Path.{sym}
 use native.Mathlib.Omega.{arith}

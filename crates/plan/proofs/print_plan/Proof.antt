@@ -1,3 +1,5 @@
+-- The text printed is the first bytes of the buffer, at most all of them.
+-- Assumes nothing.
 use native.Mathlib.Omega.{arith}
 use mathlib.Core.Path.{sym}
 use lib.Seq.{length-take-le}

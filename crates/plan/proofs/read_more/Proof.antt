@@ -1,3 +1,5 @@
+-- What came before stays, and a read ends within the buffer.
+-- Assumes nothing.
 use native.Mathlib.Omega.{arith}
 use Prim.Native.Nat.{_-_}
 use mathlib.Core.Path.{_≡_}

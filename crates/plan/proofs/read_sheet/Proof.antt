@@ -1,3 +1,5 @@
+-- Each read that brings bytes leaves less room, so that reading ends, within the buffer.
+-- Assumes nothing.
 use Prim.Native.Nat.{_+_, _-_, _≤_}
 use mathlib.Core.Path.{_≡_}
 use native.Mathlib.Omega.{arith}

@@ -1,3 +1,5 @@
+-- A plan's text is the report's; else the R line of the refusal, which has room at the start of the part.
+-- Assumes nothing.
 use native.Mathlib.Omega.{arith}
 use Rattle.printout.proofs.Forms.{printed-plan, printed-short, printed-line}
 use borrow.Author.Needs.{needs}
