@@ -24,7 +24,7 @@ expand-job-requires c κs =
     record { framed = a .pre .framed; room = a .pre .room; job = a .pre .job; next = filled-holds _ (omega (arith, base-start s (suc (a .args .i)))) (a .pre .next) }
 
 find-moves-requires : tie.Need-find-moves-requires
-find-moves-requires c κs = let a = c .before .before .before .before .before .before .before .before .before .before .before .before .before .before .pre in record { framed = a .framed; job = a .job; room = a .moves }
+find-moves-requires c κs = let a = c .before .before .before .before .before .before .before .before .before .before .before .before .before .before .pre in record { framed = a .framed; job = omega (arith, a .job); room = a .moves }
 
 mul-at : tie.Need-mul-at
 mul-at c = let g = c .before .before .before .before .before .before .before .before .before .before .before .before .before .before .before .before .before .before .before .before .before .pre .framed .axes in omega (arith, row-small g (c .before .before .before .before .before .before .before .before .before .before .before .before .before .before .before .before .before .before .before .before .before .args .i) 0 (c .before .before .before .before .before .before .before .before .before .before .before .before .before .before .before .before .before .before .before .before .before .pre .job) (g .ranges .levels .low))
