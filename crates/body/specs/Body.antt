@@ -16,9 +16,13 @@ use Rattle.line_kinds.specs.declared.Kind.the-variants.{Level, Change, Work}
 abbrev pub jobLines : ℕ → ℕ
 jobLines l = l + 1
 
+-- The lines before the L lines: the V line and the H line.
+abbrev pub headLines : ℕ
+headLines = 2
+
 -- The first line after the H line.
 abbrev pub bodyLine : ℕ
-bodyLine = 3
+bodyLine = headLines + 1
 
 -- The last line that the first S line can be.
 abbrev pub changesLine : ℕ
@@ -32,10 +36,10 @@ jobsLine = changesLine + changesMax
 abbrev pub endLine : ℕ
 endLine = jobsLine + jobsMax * jobLines levelsMax
 
--- How many lines come before the J line of job i, from 0: the V line, the H line, l lines L, l × l lines S, and those of each job
--- before it.
+-- How many lines come before the J line of job i, from 0: the V line and the H line, l lines L, l × l lines S, and those of each
+-- job before it.
 abbrev pub linesBefore : ℕ → ℕ → ℕ
-linesBefore l i = 2 + l + l * l + i * jobLines l
+linesBefore l i = headLines + l + l * l + i * jobLines l
 
 -- Where lines are sound, the reading goes on with the text, the line and the store that they leave.
 abbrev pub onward : Found → (List ℕ → ℕ → List ℕ → Found) → Found

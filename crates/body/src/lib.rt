@@ -11,8 +11,10 @@ use line_kinds::Kind;
 use lines::Stop;
 use store::LEVELS_MAX;
 
-// The first line after the H line.
-pub const BODY_LINE: usize = 3;
+// The lines before the L lines, and the first line after them.
+pub const HEAD_LINES: usize = 2;
+
+pub const BODY_LINE: usize = HEAD_LINES + 1;
 
 // Reads the S lines of l levels from line `line`, which starts at `at`.
 fn read_changes(s: &[u8], at: usize, line: usize, l: usize, store: &mut [u32]) -> Stop

@@ -26,7 +26,7 @@ pub fn lines_before(l: usize, i: usize) -> usize
     requires { ⌜ record { levels : l ≤ levelsMax; jobs : i ≤ jobsMax } ⌝ }
     ensures { λ r. ⌜ r ≡ linesBefore l i ⌝ }
 {
-    2 + l + l * l + i * job_lines(l)
+    body::HEAD_LINES + l + l * l + i * job_lines(l)
 }
 
 // The name of job i, as that part of the sheet itself; nothing for a refused sheet or a job that it does not have.

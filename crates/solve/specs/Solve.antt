@@ -25,7 +25,7 @@ pub record Within (s : Sheet) (a : State) : Type 0 where
   pub peak : a.peak ≤ s.temperatureLimit
 
 -- What planning from a state rests on: the table has the need's words, the part a byte for each job that is left.
-pub record Lent (s : Sheet) (a : State) (words bytes : ℕ) : Type 0 where
+pub record Ready (s : Sheet) (a : State) (words bytes : ℕ) : Type 0 where
   pub within : Within s a
   pub table : need s ≤ words
   pub part : s.jobs - a.done ≤ bytes

@@ -6,7 +6,7 @@ ghost use Rattle.store.specs.Figures.{sheetOf};
 ghost use Rattle.run.specs.Run.{stateOf};
 ghost use Rattle.table.specs.Table.{Axes, Framed};
 ghost use Rattle.reply.specs.Answer.{Answers};
-ghost use Rattle.solve.specs.Solve.{foundFrom, Lent, Finds};
+ghost use Rattle.solve.specs.Solve.{foundFrom, Ready, Finds};
 use reply::Reply;
 use run::Run;
 use store::LEVELS_MAX;
@@ -26,7 +26,7 @@ fn find_plan(
     requires { λ s. ⌜ sheetOf (f .head) (now store) ≡ s ⌝ }
     requires { λ s. ⌜ record {
       framed : Framed s f (now store) (now steady);
-      lent : Lent s (stateOf start) (length (now table)) (length (now part));
+      ready : Ready s (stateOf start) (length (now table)) (length (now part));
     } ⌝ }
     ensures { λ s b. ⌜ Finds s (s .jobs - start .done) (stateOf start) (now (table .entry)) (now (table .exit)) (now (part .entry)) (now (part .exit)) b ⌝ }
 {
@@ -49,7 +49,7 @@ pub fn solve(
 ) -> Reply
     ghost { Sheet }
     requires { λ s. ⌜ sheetOf (f .head) (now store) ≡ s ⌝ }
-    requires { λ s. ⌜ record { axes : Axes s f; lent : Lent s (stateOf start) (length (now table)) (length (now part)) } ⌝ }
+    requires { λ s. ⌜ record { axes : Axes s f; ready : Ready s (stateOf start) (length (now table)) (length (now part)) } ⌝ }
     ensures { λ s q. ⌜ Answers (foundFrom s (stateOf start)) (now (table .entry)) (now (table .exit)) (now (part .entry)) (now (part .exit)) q ⌝ }
 {
     let states = step::steady_states(store, f.head.resistance);

@@ -99,8 +99,11 @@ pub fn run_levels(
     levels: &[u8],
     n: usize,
 ) -> Run
-    requires { ⌜ Begun first (now store) (now steady) n ⌝ }
-    requires { ⌜ (n ≤ length (now levels)) × ((i : ℕ) → i < n → getD (now levels) i 0 < levelsMax) ⌝ }
+    requires { ⌜ record {
+      begun : Begun first (now store) (now steady) n;
+      long : n ≤ length (now levels);
+      below : (i : ℕ) → i < n → getD (now levels) i 0 < levelsMax;
+    } ⌝ }
     ensures { λ q. ⌜ ((s : Sheet) → Ranges s → Stored s (now (store .entry)) (now (steady .entry)) → stateOf q ≡ exactRun s (stateOf first) (take n (now (levels .entry)))) ⌝ }
 {
     let mut run = first;

@@ -42,7 +42,7 @@ pub fn put_number(text: &mut [u8], at: usize, n: u64) -> usize
 
 // A tab and a number of at most 10 digits; every figure of a plan is one.
 pub fn put_field(text: &mut [u8], at: usize, n: u64) -> usize
-    requires { ⌜ (n < numberEnd) × (at + fieldMax ≤ length (now text)) ⌝ }
+    requires { ⌜ record { short : n < numberEnd; room : at + fieldMax ≤ length (now text) } ⌝ }
     ensures { λ r. ⌜ Wrote (now (text .entry)) at (field n) (now (text .exit)) r ⌝ }
     ensures { λ r. ⌜ r ≤ at + fieldMax ⌝ }
 {

@@ -44,7 +44,11 @@ unfolding sheetOf
 run-levels-requires c κs =
     let a = c .before .before .before .before .before .before .before .before in
     let w = a .pre in
-    (begun-start _ (w .ranges) (stored (c .before .before .before)) (c .before .start-of .ensures (a .args .store .now)) (omega (arith, w .list .size)), (omega arith, λ i h. omega (arith, below-each (a .args .head .levels) (a .args .levels .now) (w .list .below) i h, w .ranges .levels .high)))
+    record {
+      begun = begun-start _ (w .ranges) (stored (c .before .before .before)) (c .before .start-of .ensures (a .args .store .now)) (omega (arith, w .list .size));
+      long = omega arith;
+      below = λ i h. omega (arith, below-each (a .args .head .levels) (a .args .levels .now) (w .list .below) i h, w .ranges .levels .high);
+    }
 
 -- The whole list was run.
 ran : (c : tie.After-run-levels) → let a = c .before .before .before .before .before .before .before .before .before .args in

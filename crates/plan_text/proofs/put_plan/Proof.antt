@@ -43,7 +43,11 @@ unfolding sheetOf
 run-levels-requires c κs =
     let a = c .before .before .before .before .before .before .before .before in
     let w = a .pre .handed in
-    (begun-start _ (ranges w) (stored (c .before .before .before)) (c .before .start-of .ensures (a .args .store .now)) (omega arith), (w .each, w .below))
+    record {
+      begun = begun-start _ (ranges w) (stored (c .before .before .before)) (c .before .start-of .ensures (a .args .store .now)) (omega arith);
+      long = w .each;
+      below = w .below;
+    }
 
 -- The list's run, and how large its figures are.
 ran : (c : tie.After-run-levels) → let a = c .before .before .before .before .before .before .before .before .before .args in

@@ -77,7 +77,7 @@ solve-requires c κs = let a = c .before .before .before .before .before .before
     let e = c .before .before .start-of .ensures (now (a .args .store)) in
     rw (c .before .before .before .before .before .before .before .before .frame-of .ensures) (record {
       axes = axes _ _ ok (omega (arith, k, c .before .before .before .before .before .before .if1 .left));
-      lent = record { within = rw e (start-within ok); table = omega (arith, k, c .before .before .before .before .before .if2 .left); part = omega (arith, ap (λ (x : State). x.done) e, c .before .before .before .if3 .left) };
+      ready = record { within = rw e (start-within ok); table = omega (arith, k, c .before .before .before .before .before .if2 .left); part = omega (arith, ap (λ (x : State). x.done) e, c .before .before .before .if3 .left) };
     })
 
 same-length : tie.Need-same-length

@@ -18,19 +18,19 @@ abbrev sheet : tie.Start → Sheet
 sheet c = sheetOf (c .args .f .head) (now (c .args .store))
 
 fill-requires : tie.Need-fill-requires
-fill-requires c κs = let a = c .before .before .before .pre in record { framed = a .framed; room = a .lent .table }
+fill-requires c κs = let a = c .before .before .before .pre in record { framed = a .framed; room = a .ready .table }
 
 rest-of-requires : tie.Need-rest-of-requires
 rest-of-requires c κs = λ d.
     let a = c .before .before .before .before .before .before .before .pre in
-    start-looks (a .framed .axes) _ (a .lent .within) (omega (arith, a .lent .table, c .before .before .before .fill .kept .1 .1 .1 .0)) d
+    start-looks (a .framed .axes) _ (a .ready .within) (omega (arith, a .ready .table, c .before .before .before .fill .kept .1 .1 .1 .0)) d
 
 -- What was looked up is the start's word.
 looked : (c : tie.After-rest-of) → let a = c .before .before .before .before .before .before .before .before in
     c .rest-of .result ≡ least (sheet a) ((sheet a) .jobs - a .args .start .done) (stateOf (a .args .start))
 looked c =
     let a = c .before .before .before .before .before .before .before .before in
-    start-rest (a .pre .framed .axes) _ (a .pre .lent .within) (now (a .args .table)) _ _ (a .pre .lent .table) (c .before .before .before .before .fill .ensures) (c .rest-of .ensures)
+    start-rest (a .pre .framed .axes) _ (a .pre .ready .within) (now (a .args .table)) _ _ (a .pre .ready .table) (c .before .before .before .before .fill .ensures) (c .rest-of .ensures)
 
 cast-if1 : tie.Need-cast-if1
 cast-if1 c = search needs
@@ -38,7 +38,7 @@ cast-if1 c = search needs
 add-if1 : tie.Need-add-if1
 add-if1 c =
     let a = c .before .before .before .before .before .before .before .before .before .before in
-    omega (arith, looked (c .before .before), least-bounded (sheet a) (a .pre .framed .axes .ranges) ((sheet a) .jobs - a .args .start .done) (stateOf (a .args .start)), a .pre .lent .within .time, a .pre .framed .axes .ranges .deadline)
+    omega (arith, looked (c .before .before), least-bounded (sheet a) (a .pre .framed .axes .ranges) ((sheet a) .jobs - a .args .start .done) (stateOf (a .args .start)), a .pre .ready .within .time, a .pre .framed .axes .ranges .deadline)
 
 same-length : tie.Need-same-length
 same-length c = search needs
@@ -51,7 +51,7 @@ walk-requires : tie.Need-walk-requires
 unfolding sheetOf
 walk-requires c κs =
     let a = c .before .before .before .before .before .before .before .before .before .before .before .before .before in
-    let w = a .pre .lent in
+    let w = a .pre .ready in
     record {
       framed = a .pre .framed;
       room = omega (arith, w .table, c .before .before .before .before .before .before .before .before .before .fill .kept .1 .1 .1 .0);

@@ -29,7 +29,7 @@ begun : (c : tie.After-steady-states) → let a = c .before .before .before in
 unfolding sheetOf
 begun c =
     let a = c .before .before .before in
-    let w = a .pre .lent .within in
+    let w = a .pre .ready .within in
     let ok = a .pre .axes .ranges in
     record {
       sheet = sheet a;
@@ -46,7 +46,7 @@ steady-states-requires : tie.Need-steady-states-requires
 steady-states-requires c κs = λ j h. let a = c .before .before in rw (steady-in (a .args .f .head) (now (a .args .store)) j h) (a .pre .axes .ranges .steady j)
 
 find-plan-requires : tie.Need-find-plan-requires
-find-plan-requires c κs = let a = c .before .before .before .before .before .before .before in record { framed = framed (c .before .before .before .before); lent = a .pre .lent }
+find-plan-requires c κs = let a = c .before .before .before .before .before .before .before in record { framed = framed (c .before .before .before .before); ready = a .pre .ready }
 
 sub-left : tie.Need-sub-left
 sub-left c = search needs
@@ -58,9 +58,13 @@ run-levels-requires : tie.Need-run-levels-requires
 unfolding sheetOf
 run-levels-requires c κs = let a = c .before .before .before .before .before .before .before .before .before .before .before .before .before .before .before .before .before in
     let ok = a .pre .axes .ranges in
-    let w = a .pre .lent in
+    let w = a .pre .ready in
     let levels = plan-levels _ _ _ _ _ _ _ _ (c .before .before .before .before .before .before .before .before .before .find-plan .ensures) ok (w .within) (c .before .before .before .before .if1 .taken) in
-    (begun (c .before .before .before .before .before .before .before .before .before .before .before .before .before .before), (omega (arith, w .part, c .before .before .before .before .before .before .before .before .before .find-plan .kept .1 .1 .1 .1 .1 .0), λ i h. omega (arith, levels i (omega arith), ok .levels .high)))
+    record {
+      begun = begun (c .before .before .before .before .before .before .before .before .before .before .before .before .before .before);
+      long = omega (arith, w .part, c .before .before .before .before .before .before .before .before .before .find-plan .kept .1 .1 .1 .1 .1 .0);
+      below = λ i h. omega (arith, levels i (omega arith), ok .levels .high);
+    }
 
 planned-requires : tie.Need-planned-requires
 planned-requires c κs = search needs
@@ -74,7 +78,7 @@ same-length-2 c = search needs
 returns : tie.Need-returns
 unfolding sheetOf
 returns c = let a = c .before .before .before .before .before .before .before .before .before .before .before .before .before .before .before .before .before .before .before in
-    answers-plan _ _ _ _ _ _ _ _ (c .before .before .before .before .before .before .before .before .before .before .before .find-plan .ensures) (a .pre .axes .ranges) (a .pre .lent .within) (c .before .before .before .before .before .before .if1 .taken) _ _ (c .before .run-levels .ensures (sheet a) (a .pre .axes .ranges) (framed (c .before .before .before .before .before .before .before .before .before .before .before .before .before .before .before .before) .stored)) (c .planned .ensures)
+    answers-plan _ _ _ _ _ _ _ _ (c .before .before .before .before .before .before .before .before .before .before .before .find-plan .ensures) (a .pre .axes .ranges) (a .pre .ready .within) (c .before .before .before .before .before .before .if1 .taken) _ _ (c .before .run-levels .ensures (sheet a) (a .pre .axes .ranges) (framed (c .before .before .before .before .before .before .before .before .before .before .before .before .before .before .before .before) .stored)) (c .planned .ensures)
 
 refuse-requires : tie.Need-refuse-requires
 refuse-requires c κs = search needs

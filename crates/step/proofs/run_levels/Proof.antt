@@ -14,7 +14,7 @@ abbrev μ-loop : tie.MeasureT-loop
 μ-loop store steady levels n run₀ i₀ run i = n - i
 
 loop-holds : tie.Need-loop-holds Inv-loop μ-loop
-loop-holds c = λ s r h. going-start (c .before .pre .0) s _
+loop-holds c = λ s r h. going-start (c .before .pre .begun) s _
 
 shared-slice-read-next-job : tie.Need-shared-slice-read-next-job Inv-loop μ-loop
 shared-slice-read-next-job c = search needs
@@ -26,8 +26,8 @@ next-job-requires : tie.Need-next-job-requires Inv-loop μ-loop
 next-job-requires c κs =
     let p = c .before .before .before .before .pre in
     let l = c .before .before .loop in
-    let b = p .0 in
-    going-rests b (b .sheet) _ (l .inv (b .sheet) (b .ranges) (b .stored)) (c .before .loop-test .taken) _ (p .1 .1 (l .i) (search needs))
+    let b = p .begun in
+    going-rests b (b .sheet) _ (l .inv (b .sheet) (b .ranges) (b .stored)) (c .before .loop-test .taken) _ (p .below (l .i) (search needs))
 
 add-i : tie.Need-add-i Inv-loop μ-loop
 add-i c = search needs
@@ -39,12 +39,12 @@ loop-again : tie.Need-loop-again Inv-loop μ-loop
 loop-again c = λ s r h.
     let p = c .before .before .before .before .before .pre in
     let l = c .before .before .before .loop in
-    going-next (p .0) s _ (l .inv s r h) _ r (p .1 .0) (search needs) (p .1 .1 (l .i) (search needs)) (c .next-job .ensures s h)
+    going-next (p .begun) s _ (l .inv s r h) _ r (p .long) (search needs) (p .below (l .i) (search needs)) (c .next-job .ensures s h)
 
 returns : tie.Need-returns Inv-loop μ-loop
 returns c = λ s r h.
     let p = c .before .before .before .pre in
-    going-end (p .0) s _ (c .before .loop .inv s r h) (p .1 .0) (search needs)
+    going-end (p .begun) s _ (c .before .loop .inv s r h) (p .long) (search needs)
 
 pub run-levels-spec : {M : Type 1} → statement M
 run-levels-spec = tie.close (tie.spec Inv-loop μ-loop loop-holds shared-slice-read-next-job cast-next-job next-job-requires add-i loop-less loop-again returns)

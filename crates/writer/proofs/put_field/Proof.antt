@@ -15,7 +15,7 @@ put-number-requires : tie.Need-put-number-requires
 put-number-requires c κs =
     let a = c .before .before .before .before .before .before in
     let w = c .before .before .before .put-byte .ensures in
-    omega (arith, a .pre, w .place, wrote-length w, decimal-most (a .args .n) (a .pre .0))
+    omega (arith, a .pre, w .place, wrote-length w, decimal-most (a .args .n) (a .pre .short))
 
 same-length : tie.Need-same-length
 same-length c = search needs
@@ -26,7 +26,7 @@ returns c =
     let b = c .before .before .before .before .before .before in
     let a = b .before .before .before in
     let w = join (b .put-byte .ensures) (c .before .before .put-number .ensures) in
-    (w, omega (arith, w .place, decimal-most (a .args .n) (a .pre .0)))
+    (w, omega (arith, w .place, decimal-most (a .args .n) (a .pre .short)))
 
 pub put-field-spec : {M : Type 1} → statement M
 put-field-spec = tie.close (tie.spec put-byte-requires put-number-requires same-length returns)
