@@ -14,9 +14,10 @@ use run::Run;
 use store::LEVELS_MAX;
 use store::STORE_SIZE;
 use table::Frame;
+use word::NO_WAY;
 
 // "4,294,967,295 where no way exists"
-const NO_WAY: u64 = 4_294_967_295;
+const INFEASIBLE: u64 = NO_WAY as u64;
 
 // The time from a cell on where its next job takes level j, "4,294,967,295 where no way exists".
 fn way(
@@ -34,13 +35,13 @@ fn way(
 {
     let b = step::next_job(a, store, steady, j);
     if (f.head.energy_budget as u64) < b.energy {
-        return NO_WAY;
+        return INFEASIBLE;
     }
     if (f.head.temperature_limit as u64) < b.peak {
-        return NO_WAY;
+        return INFEASIBLE;
     }
     let t = b.time + rest_of(f, table, b);
-    if t < NO_WAY { t } else { NO_WAY }
+    if t < INFEASIBLE { t } else { INFEASIBLE }
 }
 
 // The lowest level of a cell's next job that takes the least time from there.
@@ -57,7 +58,7 @@ pub fn choose(
     ensures { λ s r. ⌜ r ≡ levelBy s (now (table .entry)) (stateOf a) ⌝ }
 {
     let l = f.head.levels;
-    let mut least = NO_WAY;
+    let mut least = INFEASIBLE;
     let mut first: u32 = 0;
     let mut j: u32 = 0;
     while j < l {

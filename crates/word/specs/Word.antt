@@ -4,6 +4,7 @@
 use mathlib.Core.Bool.{cond}
 use Prim.Native.Nat.{ℕ, _+_, min}
 use lib.Dec.{ltb}
+use Rattle.frame.specs.Demands.{infeasible}
 -- The most words of a table, and the most time of a move, a change and a job.
 pub use Rattle.frame.specs.Table.{wordsMax}
 pub use Rattle.frame.specs.Sheet.{jobMost}
@@ -14,7 +15,7 @@ far = 2000000000
 
 -- "4,294,967,295 where no way exists"
 abbrev pub noWay : ℕ
-noWay = 4294967295
+noWay = infeasible
 
 -- The most that a word and the time of a move come to: still below 2 ^ 31.
 abbrev pub sumMax : ℕ
