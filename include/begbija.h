@@ -3,7 +3,8 @@
  *
  * A job sheet comes in as bytes; out comes one voltage level for each job: of the frames that keep a deadline, an energy budget
  * and a temperature limit, energy and temperature rounded up to the sheet's steps before each job, the one of least total time,
- * and among equals the one that has the lower level where they first differ; or a refusal. The README has the sheet's format, and what the steps cost. Link with -lbegbija (libbegbija.a).
+ * and among equals the one that has the lower level where they first differ; or a refusal. The README has the sheet's format, and
+ * what the steps cost. Link with -lbegbija (libbegbija.a).
  *
  *     begbija_plan_text   plans a sheet and writes the plan as text; the table is inside the call
  *     begbija_plan        plans a sheet with a table that the caller lends: levels, and a reply with their figures
