@@ -26,8 +26,8 @@ abbrev pub needNumber : Words → ℤ
 needNumber n = countOrRefusal (n .refusal) (n .words)
 
 -- "A plan or "no plan" from the logger's call or `plan` is the planner's with the table used there": the demands in words hold of
--- a reply and of levels in a part with a byte for every job. The call's number and text say these, but where the part for the text
--- is "under 4,096", which is told in the place of a plan or of "no plan".
+-- a reply and of levels in a part with a byte for every job. The call's number and text tell them. Only where the part for the text
+-- is "under 4,096" is 9 told instead of a plan or of "no plan".
 pub record TextDemands (t : List ℕ) (room : ℕ) (text : List ℕ) (q : ℤ) : Type 0 where
   pub reply : Reply
   pub levels : List ℕ

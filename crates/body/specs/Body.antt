@@ -24,15 +24,15 @@ headLines = 2
 abbrev pub bodyLine : ℕ
 bodyLine = headLines + 1
 
--- The last line that the first S line can be.
+-- The largest line number of the first S line.
 abbrev pub changesLine : ℕ
 changesLine = bodyLine + levelsMax
 
--- The last line that the first J line can be.
+-- The largest line number of the first J line.
 abbrev pub jobsLine : ℕ
 jobsLine = changesLine + changesMax
 
--- The last line that can follow the sheet's own.
+-- The largest number of the line after the last.
 abbrev pub endLine : ℕ
 endLine = jobsLine + jobsMax * jobLines levelsMax
 

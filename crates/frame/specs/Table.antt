@@ -33,8 +33,8 @@ wordsMax = 4194304
 unfoldable pub place : Sheet → ℕ → ℕ → ℕ → ℕ → ℕ
 place s i p a b = ((i * s.levels + p) * energyCells s + a) * temperatureCells s + b
 
--- "For i jobs done (0 to m − 1), level before p, energy a × g and temperature b × h", in the top cells of each axis perhaps
--- above W or C, and in any cell perhaps not to be reached.
+-- "For i jobs done (0 to m − 1), level before p, energy a × g and temperature b × h". A top cell may lie above W or C, and some cells
+-- no run reaches.
 abbrev pub cell : Sheet → ℕ → ℕ → ℕ → ℕ → State
 cell s i p a b = fresh i p (a * s.energyStep) (b * s.temperatureStep)
 

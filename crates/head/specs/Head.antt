@@ -39,8 +39,8 @@ headLos = 1 ∷ 1 ∷ 0 ∷ 0 ∷ 0 ∷ 0 ∷ 0 ∷ 0 ∷ 1 ∷ 1 ∷ []
 -- ceiling C (0 to 20,000), start temperature (0 to 20,000), resistance R (0 to 20,000), energy grain g (1 to 2,000,000,000),
 -- temperature grain h (1 to 20,000)"; the start level's depends on l.
 abbrev pub headHis : ℕ → List ℕ
-headHis startLevel =
-    jobsMax ∷ levelsMax ∷ startLevel ∷ limitMax ∷ limitMax ∷ temperatureMax ∷ temperatureMax ∷ resistanceMax ∷ limitMax ∷ temperatureMax ∷ []
+headHis startLevelMax =
+    jobsMax ∷ levelsMax ∷ startLevelMax ∷ limitMax ∷ limitMax ∷ temperatureMax ∷ temperatureMax ∷ resistanceMax ∷ limitMax ∷ temperatureMax ∷ []
 
 -- The H line, byte 72: m and l, and then the others.
 unfoldable pub headFields : List ℕ → Fields

@@ -10,7 +10,7 @@ use Rattle.store.specs.declared.Head.{Head}
 use Rattle.body.specs.Body.{linesBefore}
 use Rattle.sheet.specs.Reading.{readingOf}
 
--- The name on the J line that n lines come before.
+-- The name on the J line that follows the first n lines.
 unfoldable pub nameAt : ℕ → List ℕ → List ℕ
 nameAt n t = nextName (skip n t)
 

@@ -5,7 +5,7 @@ ghost use Rattle.body.specs.Body.{jobLines, linesBefore};
 ghost use Rattle.names.specs.Name.{nameAt, nameOf};
 use store::STORE_SIZE;
 
-// The name on the J line that n lines come before.
+// The name on the J line that follows the first n lines.
 pub fn name_at(s: &[u8], n: usize) -> &[u8]
     ensures { λ r. ⌜ now r ≡ nameAt n (now (s .entry)) ⌝ }
 {

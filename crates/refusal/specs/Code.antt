@@ -8,7 +8,7 @@ use Rattle.refusal.specs.declared.Refusal.{Refusal}
 use Rattle.refusal.specs.declared.RefusalCode.{RefusalCode}
 use Rattle.refusal.specs.declared.Refusal.the-variants.{Nothing, TooLong, Line, Form as FormAt, Range as RangeAt, Hot, Trailing}
 
--- A fault of a line as a refusal: 2 for its letter or its count of fields, 3 for a field's form, 4 for a field's range.
+-- A fault of a line as a refusal: 2 for its letter, its count of fields or a missing line, 3 for a field's form, 4 for a field's range.
 abbrev pub refusalOf : Fault → ℕ → Refusal
 refusalOf Sound line = Nothing
 refusalOf Shape line = Line line

@@ -101,8 +101,8 @@ fn read_sheet(s: &[u8], store: &mut [u32; STORE_SIZE]) -> Reading
     read_from_head(s, e + 1, values[0], store)
 }
 
-// Reads a sheet, or gives the first refusal of 1 to 6. The figures of its L, S and B lines go to the store, whatever it held; no other
-// word of it is left but 0. The store is cleared here, where a caller has just made it, so that it is cleared once.
+// Reads a sheet, or gives the first refusal of 1 to 6. The figures of its L, S and B lines go to the store, whatever it held; every
+// other word of it is then 0. A caller has just made the store, so that clearing it here costs nothing.
 pub fn read(s: &[u8], store: &mut [u32; STORE_SIZE]) -> Reading
     ensures { λ r. ⌜ readIn r (now (store .exit)) ≡ readingOf (now (s .entry)) ⌝ }
 {

@@ -1,4 +1,4 @@
--- Planning the jobs that are left, from any state within the limits: the sheet's start, or what was read after a job.
+-- Planning the jobs that are left, from any state within the limits: the sheet's start, or what was measured after a job.
 -- Assumes nothing.
 use mathlib.Core.Path.{_≡_}
 use mathlib.Core.Bool.{Bool, true, false}

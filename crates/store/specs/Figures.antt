@@ -1,4 +1,4 @@
--- The way from what was read to a sheet, as the definitions of a frame take it (`frame`): a figure beyond the store's own part is 0.
+-- Head and store as a `Sheet` of `frame`. A place past the end of a kind's part of the store counts as 0.
 -- Assumes nothing.
 use mathlib.Core.Bool.{cond}
 use mathlib.Core.List.{List}

@@ -1,5 +1,5 @@
 -- One word of the table: the least time from a state on, and how "no way" is written while a job is worked on and once it is done.
--- The constants of the code have the same names.
+-- `FAR` and `NO_WAY` are the code's names for `far` and `noWay`.
 -- Assumes nothing.
 use mathlib.Core.Bool.{cond}
 use Prim.Native.Nat.{ℕ, _+_, min}

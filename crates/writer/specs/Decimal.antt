@@ -1,4 +1,4 @@
--- Numbers as the bytes of their digits (document 01, 'Units' and 'The sheet'). `value-back` in `proofs/Decimal.antt` shows that
+-- Numbers as the bytes of their digits (document 01, 'Units' and 'The sheet'). `read-back` in `proofs/Decimal.antt` shows that
 -- the sheet's reader takes them for the same numbers, of up to 10 digits.
 -- Assumes nothing.
 use mathlib.Core.Bool.{cond}
