@@ -3,9 +3,11 @@ ghost use mathlib.Core.Path.{_≡_};
 ghost use lib.ListN.{length};
 ghost use Rattle.measure.specs.Measure.{measureOf};
 ghost use Rattle.measure.specs.Meaning.{Meaning};
-ghost use Rattle.demands.specs.Order.{answerOf};
+ghost use Rattle.frame.specs.Afresh.{reading};
+ghost use Rattle.demands.specs.Order.{answerOf, afreshOf};
 ghost use Rattle.reply.specs.Answer.{Answers};
 ghost use Rattle.demands.specs.Demands.{Demands};
+ghost use Rattle.demands.specs.Afresh.{AfreshDemands};
 ghost use Rattle.need.specs.Need.{wordsOf};
 ghost use Rattle.report.specs.Report.{answerIn, reportOf, textAfter};
 ghost use Rattle.c_values.specs.Values.{minus, replyIn, figuresOf, measuredIn};
@@ -35,6 +37,28 @@ pub extern "C" fn begbija_plan(
     ensures { λ q. ⌜ Demands (now (sheet .entry)) (length (now (table .entry))) (length (now (levels .entry))) (now (levels .exit)) (replyIn (now (reply .exit))) ⌝ }
 {
     let r = planner::plan(sheet, table, levels);
+    c_values::put_reply(r, reply);
+    c_values::count_or_refusal(r.refusal, 0)
+}
+
+// 0 for a plan of the jobs still to do after what is read, or minus the refusal; the figures of either in `reply`.
+#[no_mangle]
+pub extern "C" fn begbija_plan_afresh(
+    sheet: &[u8],
+    done: u32,
+    level: u32,
+    time: u32,
+    energy: u32,
+    temperature: u32,
+    table: &mut [u32],
+    levels: &mut [u8],
+    reply: &mut [u64; 7],
+) -> i64
+    ensures { λ q. ⌜ q ≡ minus (replyIn (now (reply .exit)) .refusal) ⌝ }
+    ensures { λ q. ⌜ Answers (afreshOf (now (sheet .entry)) (reading done level time energy temperature) (length (now (table .entry))) (length (now (levels .entry)))) (now (table .entry)) (now (table .exit)) (now (levels .entry)) (now (levels .exit)) (replyIn (now (reply .exit))) ⌝ }
+    ensures { λ q. ⌜ AfreshDemands (now (sheet .entry)) (reading done level time energy temperature) (length (now (table .entry))) (length (now (levels .entry))) (now (levels .exit)) (replyIn (now (reply .exit))) ⌝ }
+{
+    let r = afresh::plan_afresh(sheet, done, level, time, energy, temperature, table, levels);
     c_values::put_reply(r, reply);
     c_values::count_or_refusal(r.refusal, 0)
 }

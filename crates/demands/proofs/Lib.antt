@@ -1,3 +1,4 @@
 pub mod Order
 pub mod Demands
 pub mod Ways
+pub mod Afresh

@@ -1,51 +1,44 @@
 -- What holds of every answer, by the ways to it: a sheet that is turned away, 7 or 8, 9, and what is found.
 -- Assumes nothing.
 use mathlib.Core.Path.{_≡_, refl}
-use mathlib.Core.Bool.{Bool, cond}
 use mathlib.Core.List.{List}
 use Prim.Native.Nat.{ℕ, _≤_, _<_}
 use native.Mathlib.Omega.{arith}
-use lib.Dec.{ltb}
 use lib.ListN.{length}
-use borrow.Author.Tests.{ltb-true}
 use Rattle.frame.specs.Sheet.{Sheet}
 use Rattle.frame.specs.Run.{start, exactRun}
 use Rattle.frame.specs.Demands.{Outcome, planned, noPlan}
 use Rattle.frame.specs.Demands as frame
 use Rattle.frame.specs.Limits.{tightened}
 use Rattle.frame.specs.Plan.{frameOutcome}
-use Rattle.frame.specs.Table.{need, wordsMax}
+use Rattle.frame.specs.Table.{need}
 use Rattle.frame.proofs.Run.{meets-peak}
 use Rattle.frame.proofs.Demand3.{frame-demand3}
 use Rattle.refusal.specs.declared.Refusal.the-variants.{Nothing}
 use Rattle.refusal.specs.Code.{numberOf}
 use Rattle.refusal.proofs.Apart.{accepted-ways}
-use Rattle.fields.proofs.Within.{cond-cases}
+use Rattle.checks.proofs.Checks.{lack-cases}
 use Rattle.sheet.specs.Reading.{readingOf, sheetIn}
 use Rattle.sheet.proofs.Ranges.{read-ranges}
 use Rattle.reply.specs.declared.Reply.{Reply}
 use Rattle.reply.specs.Answer.{Answer, refused, found, replyOf, PeakOf, tableAfter, partAfter, Answers}
-use Rattle.demands.specs.Order.{frameFound, answerFor, turnedAway, answerTo, answerOf}
+use Rattle.demands.specs.Order.{frameFound, unless, answerFor, turnedAway, answerBy, answerTo, answerOf}
 use Rattle.demands.specs.Demands.{Demands}
 use Rattle.demands.proofs.Demands.{demands-hold}
 
 module _ (P : Answer → Type 0) where
-  either : (b : Bool) (x y : Answer) → P x → P y → P (cond b x y)
-  either b x y h k = cond-cases P b x y (λ e. h) (λ e. k)
-
   module _ (late : (n : ℕ) → 7 ≤ n → n ≤ 8 → P (refused n 0 0)) where
     frame-ways : (s : Sheet) (words bytes : ℕ) → (bytes < s.jobs → P (refused 9 0 0)) → P (frameFound s) → P (answerFor s words bytes)
     unfolding answerFor
     frame-ways s words bytes nine h =
-        either (ltb wordsMax (need s)) _ _ (late 7 (omega arith) (omega arith))
-        (either (ltb words (need s)) _ _ (late 8 (omega arith) (omega arith))
-        (cond-cases P (ltb bytes s.jobs) _ _ (λ e. nine (ltb-true bytes s.jobs e)) (λ e. h)))
+        lack-cases (λ c. P (unless c (frameFound s))) (need s) s.jobs words bytes
+        (λ a. late 7 (omega arith) (omega arith)) (λ a b. late 8 (omega arith) (omega arith)) (λ a b c. nine c) (λ a b c. h)
 
     pub answer-ways : (t : List ℕ) (words bytes : ℕ) →
         (let f = (readingOf t) .refusal in 1 ≤ numberOf f → numberOf f ≤ 6 → P (turnedAway f)) →
         ((readingOf t) .refusal ≡ Nothing → bytes < (sheetIn t) .jobs → P (refused 9 0 0)) →
         ((readingOf t) .refusal ≡ Nothing → P (frameFound (sheetIn t))) → P (answerOf t words bytes)
-    unfolding answerTo answerOf
+    unfolding answerBy answerTo answerOf
     answer-ways t words bytes a nine h = accepted-ways P ((readingOf t) .refusal) turnedAway _ a (λ e. frame-ways (sheetIn t) words bytes (nine e) (h e))
 
 -- ---- the answer's own reply, with the peak of the plan's run

@@ -13,18 +13,19 @@ use Rattle.frame.specs.Limits.{energySlack, temperatureSlack, tightened,
 use Rattle.frame.specs.Demands.{Tight, figures}
 use Rattle.frame.specs.Plan.{leastOf, firstWithin, next, cost, least, via, choice, plan, outcome}
 use Rattle.frame.specs.Table.{energyCells, temperatureCells, need, place, word}
-use Rattle.frame.specs.Cases.{Answer, Case, sheet, cases}
+use Rattle.frame.specs.Afresh.{tightenedLeft}
+use Rattle.frame.specs.Cases.{CaseAnswer, Case, sheet, cases}
 
-abbrev given : List Case → List Answer
+abbrev given : List Case → List CaseAnswer
 given [] = []
 given (c ∷ cs) = c .given ∷ given cs
 
-abbrev expected : List Case → List Answer
+abbrev expected : List Case → List CaseAnswer
 expected [] = []
 expected (c ∷ cs) = c .expected ∷ expected cs
 
 pub cases-hold : (T s : ℕ) → given (cases T s) ≡ expected (cases T s)
-unfolding energySlack temperatureSlack margins figures outcome plan choice via least cost next firstWithin leastOf raised step job change need place word energyCells temperatureCells raise ceilDiv steadyState temperatureAfter
+unfolding energySlack temperatureSlack tightenedLeft margins figures outcome plan choice via least cost next firstWithin leastOf raised step job change need place word energyCells temperatureCells raise ceilDiv steadyState temperatureAfter
 cases-hold T s = rw (rule-keeps T s) refl
 
 -- Levels 1, 0 meet the tightened limits of demand 3 exactly: 49, 85 − 9 = 76 and 2,698 − 198 = 2,500.

@@ -49,6 +49,11 @@ module _ (s : Sheet) (n : ℕ) (a : State) where
   pub keeps-time : (d : ℕ) (js : List ℕ) → a.time ≤ d → Keeps s d n a js → endTime s a js ≤ d
   keeps-time d js h k = rw (same-time s js a a refl refl refl) (meets-time s (raised s) d js a h (k .meets))
 
+  -- Where a job is left, a list that keeps a deadline starts by it.
+  pub keeps-soon : (d : ℕ) (js : List ℕ) → 1 ≤ n → Keeps s d n a js → a.time ≤ d
+  keeps-soon d [] h k = absurd (omega (arith, k .levels .size))
+  keeps-soon d (j ∷ js) h k = omega (arith, run-later s (raised s) (raised-time s) (j ∷ []) a, k .meets .0 .time)
+
   -- No list that keeps the limits ends before the least time.
   pub least-end : (d : ℕ) (js : List ℕ) → Keeps s d n a js → a.time + least s n a ≤ endTime s a js
   least-end d js k =
@@ -79,11 +84,11 @@ module _ (s : Sheet) (n : ℕ) (a : State) where
               (choice-first s (a.time + least s n a) xs a (least s n a) short (omega arith) (omega arith) (k .levels .below) (keeps-by s.deadline (a.time + least s n a) xs (omega arith) k .meets));
         }
 
-  -- Demand 2, from any state that is within the temperature limit and the deadline.
-  pub demand2 : s.deadline < infeasible → a.peak ≤ s.temperatureLimit → a.time ≤ s.deadline → OutcomeDemand2 s n a (outcome s n a)
+  -- Demand 2, from any state whose peak is within the temperature limit, where a job is left.
+  pub demand2 : s.deadline < infeasible → a.peak ≤ s.temperatureLimit → 1 ≤ n → OutcomeDemand2 s n a (outcome s n a)
   unfolding outcome
-  demand2 small cool soon =
+  demand2 small cool some =
       elim (decLe (a.time + least s n a) s.deadline) [
         | yes h ↦ rw (le-leb (a.time + least s n a) s.deadline h) (plan-best cool (omega arith) h)
-        | no h ↦ rw (lt-leb (a.time + least s n a) s.deadline (omega arith)) (λ js k. omega (arith, keeps-least s s.deadline n a js soon k))
+        | no h ↦ rw (lt-leb (a.time + least s n a) s.deadline (omega arith)) (λ js k. omega (arith, keeps-least s s.deadline n a js (keeps-soon s.deadline js some k) k))
       ]

@@ -9,7 +9,7 @@ use native.Mathlib.Omega.{arith}
 use lib.ListN.{length}
 use Rattle.frame.specs.Sheet.{Sheet, Ranges}
 use Rattle.frame.specs.Run.{State, start}
-use Rattle.frame.specs.Limits.{Limits, limits, energySlack, temperatureSlack, tightened}
+use Rattle.frame.specs.Limits.{Limits, limits, energySlack, temperatureSlack, lessSlack, tightened}
 use Rattle.frame.specs.Plan.{frameOutcome}
 use Rattle.frame.specs.Demands.{Keeps, Outcome, planned, noPlan, OutcomeDemand2, Tight, OutcomeDemand3}
 use Rattle.frame.proofs.Limits.{at-most-sub, Tighter}
@@ -17,13 +17,13 @@ use Rattle.frame.proofs.Slack.{rounded-sound, tighter-keeps}
 use Rattle.frame.proofs.Demand2.{demand2}
 
 module _ (s : Sheet) (ok : Ranges s) where
-  -- What meets the tightened limits meets the limits with the slack added to it.
-  tightened-tighter : Tighter (energySlack s) (temperatureSlack s) (limits s) (tightened s)
-  tightened-tighter =
+  -- What meets the limits less a slack meets the limits with the slack added to it.
+  pub less-tighter : (e t : ℕ) → Tighter e t (limits s) (lessSlack s e t)
+  less-tighter e t =
       record {
         time = λ x h. h;
-        energy = λ x h. at-most-sub x s.energyBudget (energySlack s) .0 h;
-        temperature = λ x h. at-most-sub x s.temperatureLimit (temperatureSlack s) .0 h;
+        energy = λ x h. at-most-sub x s.energyBudget e .0 h;
+        temperature = λ x h. at-most-sub x s.temperatureLimit t .0 h;
       }
 
   -- The slack has room for the raises of a list of one level for each job.
@@ -43,7 +43,7 @@ module _ (s : Sheet) (ok : Ranges s) where
       record {
         levels = t .levels;
         meets =
-            tighter-keeps s ok (limits s) (tightened s) (energySlack s) (temperatureSlack s) tightened-tighter 0 s.startLevel s.startTemperature j js
+            tighter-keeps s ok (limits s) (tightened s) (energySlack s) (temperatureSlack s) (less-tighter (energySlack s) (temperatureSlack s)) 0 s.startLevel s.startTemperature j js
             (energy-raises j js l) (temperature-raises j js l) (t .meets);
       }
 
@@ -61,7 +61,7 @@ module _ (s : Sheet) (ok : Ranges s) where
   -- ---- the sheet's own frame
 
   pub frame-demand2 : OutcomeDemand2 s s.jobs (start s) (frameOutcome s)
-  frame-demand2 = demand2 s s.jobs (start s) (omega (arith, ok .deadline)) (omega arith) (omega arith)
+  frame-demand2 = demand2 s s.jobs (start s) (omega (arith, ok .deadline)) (omega arith) (ok .jobs .low)
 
   pub frame-demand3 : OutcomeDemand3 s (tightened s) s.jobs (start s) (frameOutcome s)
   frame-demand3 = demand3 (tightened s) s.jobs (start s) tight-keeps (frameOutcome s) frame-demand2

@@ -6,6 +6,7 @@ pub mod Slack
 pub mod Plan
 pub mod Demand2
 pub mod Demand3
+pub mod Afresh
 pub mod Words
 pub mod Table
 pub mod Margins

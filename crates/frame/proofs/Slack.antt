@@ -7,10 +7,10 @@ use mathlib.Core.List.{List, [], _∷_}
 use Prim.Native.Nat.{ℕ, _+_, _*_, _-_, _≤_}
 use native.Mathlib.Omega.{arith}
 use lib.ListN.{length}
-use Rattle.thermal.proofs.Rounding.{raise-ge, raise-le, raise-zero}
+use Rattle.thermal.proofs.Rounding.{raise-ge, raise-le, raise-mono, raise-zero}
 use Rattle.thermal.proofs.Thermal.{rule-nonexpansive}
 use Rattle.frame.specs.Sheet.{Sheet, Ranges, steadyOf}
-use Rattle.frame.specs.Run.{State, fresh, change, job, step, exact, raised}
+use Rattle.frame.specs.Run.{State, fresh, change, job, step, exact, raised, run, exactRun, roundedRun}
 use Rattle.frame.specs.Limits.{Limits, Within, Meets}
 use Rattle.frame.proofs.Limits.{at-most-less, Tighter, tighter-same, tighter-less}
 
@@ -105,3 +105,30 @@ module _ (s : Sheet) (ok : Ranges s) where
         within-near 0 v k k′ _ _ (tighter-less 0 E v T k k′ (omega arith) (omega arith) c) h (w .0),
         near-meets k k′ E T c exact (raised s) u v (λ e d a b _ _ n. above-raised e d a b n) js 0 v _ _ (omega arith) (omega arith) h (w .1),
       )
+
+  -- From any state: one raise of the energy more, of what is read.
+  pub left-keeps : (k k′ : Limits) (js : List ℕ) (a : State) →
+      Tighter (length js * (s.energyStep - 1)) (length js * (s.temperatureStep - 1)) k k′ → Meets s exact k′ a js → Meets s (raised s) k a js
+  left-keeps k k′ js a c w =
+      near-meets k k′ _ _ c exact (raised s) (s.energyStep - 1) (s.temperatureStep - 1) (λ e d x y _ _ n. above-raised e d x y n) js 0 0 a a (omega arith) (omega arith) (near-self a) w
+
+  -- ---- a run from what is read, nowhere above
+
+  both-raised : (e t : ℕ) (a b : State) → e ≤ 0 → t ≤ 0 → Near e t a b → Near (e + 0) (t + 0) (raised s a) (raised s b)
+  unfolding raised
+  both-raised e t a b x y h =
+      omega (arith, raise-mono s.energyStep b.energy a.energy (ok .energyStep .low) (omega arith), raise-mono s.temperatureStep b.temperature a.temperature (ok .temperatureStep .low) (omega arith))
+
+  -- What a rounded run meets, one from nowhere above meets too.
+  pub lower-meets : (k : Limits) (js : List ℕ) (a b : State) → Near 0 0 a b → Meets s (raised s) k a js → Meets s (raised s) k b js
+  lower-meets k js a b h w =
+      near-meets k k 0 0 (tighter-same k) (raised s) (raised s) 0 0 both-raised js 0 0 a b (omega arith) (omega arith) h w
+
+  module _ (r : State → State) (f : (a b : State) → Near 0 0 a b → Near 0 0 (r a) b) where
+    -- An exact run from nowhere above stays nowhere above.
+    pub lower-run : (js : List ℕ) (a b : State) → Near 0 0 a b → Near 0 0 (run s r a js) (exactRun s b js)
+    lower-run [] a b h = h
+    lower-run (j ∷ js) a b h = lower-run js _ _ (near-step 0 0 (r a) b j (f a b h))
+
+  pub rounded-above : (js : List ℕ) (a : State) → Near 0 0 (roundedRun s a js) (exactRun s a js)
+  rounded-above js a = lower-run (raised s) (λ x y h. below-raised 0 0 x y (omega arith) (omega arith) h) js a a (near-self a)

@@ -9,24 +9,25 @@ use lib.IntN.{ℤ, pos, negℤ}
 use lib.ListN.{getD}
 use Rattle.thermal.specs.Thermal.{steadyState, temperatureAfter}
 use Rattle.frame.specs.Sheet.{Sheet}
-use Rattle.frame.specs.Run.{start, roundedRun}
+use Rattle.frame.specs.Run.{State, start, roundedRun}
 use Rattle.frame.specs.Limits.{Limits, energySlack, temperatureSlack, tightened, Margins, margins}
 use Rattle.frame.specs.Demands.{Outcome, planned, noPlan, Figures, figures}
-use Rattle.frame.specs.Plan.{frameOutcome}
+use Rattle.frame.specs.Plan.{outcome}
 use Rattle.frame.specs.Table.{need, place, word}
+use Rattle.frame.specs.Afresh.{reading, jobsLeft, tightenedLeft, ranTo}
 
 -- What a case has for an answer: a plan's levels and figures, a refusal's number, a measured list's margins, limits, or a number.
-pub data Answer : Type 0 where
-  planIs : List ℕ → Figures → Answer
-  refusalIs : ℕ → Answer
-  marginsAre : Margins → Answer
-  limitsAre : Limits → Answer
-  numberIs : ℕ → Answer
+pub data CaseAnswer : Type 0 where
+  planIs : List ℕ → Figures → CaseAnswer
+  refusalIs : ℕ → CaseAnswer
+  marginsAre : Margins → CaseAnswer
+  limitsAre : Limits → CaseAnswer
+  numberIs : ℕ → CaseAnswer
 
--- The answer for a sheet's own frame; "no plan" is refusal 10.
-abbrev pub answerOf : Sheet → Outcome → Answer
-answerOf s (planned js) = planIs js (figures s (start s) js)
-answerOf s noPlan = refusalIs 10
+-- The answer for the jobs left from a state; "no plan" is refusal 10.
+abbrev pub answerFrom : Sheet → State → Outcome → CaseAnswer
+answerFrom s a (planned js) = planIs js (figures s a js)
+answerFrom s a noPlan = refusalIs 10
 
 -- The figure in row i and column j.
 abbrev pub entry : List (List ℕ) → ℕ → ℕ → ℕ
@@ -98,20 +99,28 @@ unequal D W C =
 
 -- What the definitions give, and what is expected of them.
 pub record Case : Type 0 where
-  pub given : Answer
-  pub expected : Answer
+  pub given : CaseAnswer
+  pub expected : CaseAnswer
 
--- A sheet planned: the levels, and the plan's time, energy and final temperature.
-abbrev pub plans : Sheet → List ℕ → ℕ → ℕ → ℕ → Case
-plans s js time energy temperature =
+-- The jobs left from a state planned: the levels, and the plan's time, energy and final temperature.
+abbrev pub plansFrom : Sheet → State → List ℕ → ℕ → ℕ → ℕ → Case
+plansFrom s a js time energy temperature =
     record {
-      given = answerOf s (frameOutcome s);
+      given = answerFrom s a (outcome s (jobsLeft s a) a);
       expected = planIs js (record { time = time; energy = energy; temperature = temperature });
     }
 
--- A sheet refused: the refusal's number.
+-- A sheet planned, from its start.
+abbrev pub plans : Sheet → List ℕ → ℕ → ℕ → ℕ → Case
+plans s js time energy temperature = plansFrom s (start s) js time energy temperature
+
+-- The jobs left from a state refused: the refusal's number.
+abbrev pub refusesFrom : Sheet → State → ℕ → Case
+refusesFrom s a number = record { given = answerFrom s a (outcome s (jobsLeft s a) a); expected = refusalIs number }
+
+-- A sheet refused.
 abbrev pub refuses : Sheet → ℕ → Case
-refuses s number = record { given = answerOf s (frameOutcome s); expected = refusalIs number }
+refuses s number = refusesFrom s (start s) number
 
 -- A list measured on a sheet: the three margins.
 abbrev pub measures : Sheet → List ℕ → ℤ → ℤ → ℤ → Case
@@ -121,11 +130,11 @@ measures s js time energy temperature =
       expected = marginsAre (record { time = time; energy = energy; temperature = temperature });
     }
 
--- The tightened limits of a sheet.
-abbrev pub tightens : Sheet → ℤ → ℤ → ℤ → Case
-tightens s time energy temperature =
+-- Tightened limits.
+abbrev pub tightens : Limits → ℤ → ℤ → ℤ → Case
+tightens k time energy temperature =
     record {
-      given = limitsAre (tightened s);
+      given = limitsAre k;
       expected = limitsAre (record { time = time; energy = energy; temperature = temperature });
     }
 
@@ -190,9 +199,32 @@ cases T s =
     -- by hand: of all 27 lists the one of least time; 1,010 goes to 1,303, 1,628 and 1,415
     ∷ plans (unequal 300 130 1700) (0 ∷ 1 ∷ 0 ∷ []) 238 111 1415
     -- by hand: the tightened limits, and where they fall below zero
-    ∷ tightens (sheet 50 100 2500 10 100) (pos 50) (pos 91) (pos 2302)
-    ∷ tightens (sheet 50 5 100 10 100) (pos 50) (negℤ (pos 4)) (negℤ (pos 98))
+    ∷ tightens (tightened (sheet 50 100 2500 10 100)) (pos 50) (pos 91) (pos 2302)
+    ∷ tightens (tightened (sheet 50 5 100 10 100)) (pos 50) (negℤ (pos 4)) (negℤ (pos 98))
     -- "log ends at 2,500, send starts from 3,000 and ends at 2,500", with energy 48 raised to 50
     ∷ gives ((roundedRun (sheet 50 100 2500 10 1000) (start (sheet 50 100 2500 10 1000)) (1 ∷ 0 ∷ [])) .temperature) 2500
     ∷ gives ((roundedRun (sheet 50 100 2500 10 1000) (start (sheet 50 100 2500 10 1000)) (1 ∷ 0 ∷ [])) .energy) 78
+    -- document 02, W1, all by hand. After log at level 1 as planned, read as planned: send at 0, and the totals count on from 48
+    ∷ plansFrom (sheet 49 100 2500 10 100) (reading 1 1 20 48 2500) (0 ∷ []) 49 76 2250
+    -- one unit above the plan's run, of time and, with g 1, of energy: no plan is promised, and there is none
+    ∷ refusesFrom (sheet 49 100 2500 10 100) (reading 1 1 21 48 2500) 10
+    ∷ plansFrom (sheet 50 76 2500 1 100) (reading 1 1 20 48 2500) (0 ∷ []) 49 76 2250
+    ∷ refusesFrom (sheet 50 76 2500 1 100) (reading 1 1 20 49 2500) 10
+    -- the energy read is raised: 51 + 28 is 79, but 60 + 28 is 88
+    ∷ refusesFrom (sheet 50 87 2500 10 100) (reading 1 1 20 51 2500) 10
+    ∷ plansFrom (sheet 50 88 2500 10 100) (reading 1 1 20 51 2500) (0 ∷ []) 49 79 2250
+    -- cooler and cheaper than planned: send at 1 ends at 2,450
+    ∷ plansFrom (sheet 49 100 2500 10 100) (reading 1 1 18 40 900) (1 ∷ []) 33 80 2450
+    -- no job is done, the level is another, and 7 and 1,500 are there already: 1 + 30 + 28 and 3 + 20 + 25 more
+    ∷ plansFrom (sheet 64 100 2500 10 100) (reading 0 1 5 7 1500) (0 ∷ 0 ∷ []) 64 55 1875
+    -- energy or time past its limit
+    ∷ refusesFrom (sheet 50 100 2500 10 100) (reading 1 1 20 101 1000) 10
+    ∷ refusesFrom (sheet 50 100 2500 10 100) (reading 1 1 51 48 1000) 10
+    -- one job still to do takes 9 off W and 99 off C, two take 18 and 198
+    ∷ tightens (tightenedLeft (sheet 50 100 2500 10 100) 1) (pos 50) (pos 91) (pos 2401)
+    ∷ tightens (tightenedLeft (sheet 50 100 2500 10 100) 2) (pos 50) (pos 82) (pos 2302)
+    -- the run of levels 1, 0 so far: no job, and log
+    ∷ gives ((ranTo (sheet 50 100 2500 10 100) (1 ∷ 0 ∷ []) 0) .level) 0
+    ∷ gives ((ranTo (sheet 50 100 2500 10 100) (1 ∷ 0 ∷ []) 1) .level) 1
+    ∷ gives ((ranTo (sheet 50 100 2500 10 100) (1 ∷ 0 ∷ []) 1) .energy) 48
     ∷ []

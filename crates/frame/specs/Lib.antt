@@ -4,4 +4,5 @@ pub mod Limits
 pub mod Demands
 pub mod Plan
 pub mod Table
+pub mod Afresh
 pub mod Cases

@@ -49,15 +49,13 @@ energySlack s = (s.jobs - 1) * (s.energyStep - 1)
 unfoldable pub temperatureSlack : Sheet → ℕ
 temperatureSlack s = s.jobs * (s.temperatureStep - 1)
 
--- The tightened limits of demand 3: "the deadline, the ration less (m − 1) × (g − 1) and the ceiling less m × (h − 1)";
--- "the tightened figures are signed".
+-- The sheet's limits, less e energy and t temperature: "the tightened figures are signed".
+abbrev pub lessSlack : Sheet → ℕ → ℕ → Limits
+lessSlack s e t = record { time = pos s.deadline; energy = subℕ s.energyBudget e; temperature = subℕ s.temperatureLimit t }
+
+-- The tightened limits of demand 3: "the deadline, the ration less (m − 1) × (g − 1) and the ceiling less m × (h − 1)".
 abbrev pub tightened : Sheet → Limits
-tightened s =
-    record {
-      time = pos s.deadline;
-      energy = subℕ s.energyBudget (energySlack s);
-      temperature = subℕ s.temperatureLimit (temperatureSlack s);
-    }
+tightened s = lessSlack s (energySlack s) (temperatureSlack s)
 
 -- "three signed margins: D less total time, W less total energy, C less the highest temperature at a job end"
 pub record Margins : Type 0 where

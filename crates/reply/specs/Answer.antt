@@ -8,6 +8,8 @@ use lib.ListN.{drop}
 use Rattle.frame.specs.Sheet.{Sheet, Between}
 use Rattle.frame.specs.Run.{State, exactRun}
 use Rattle.frame.specs.Demands.{Outcome, planned, noPlan, Figures, figures}
+use Rattle.frame.specs.Plan.{outcome}
+use Rattle.frame.specs.Afresh.{jobsLeft}
 use Rattle.frame.specs.Table.{filled}
 use Rattle.reply.specs.declared.Reply.{Reply}
 
@@ -16,6 +18,10 @@ use Rattle.reply.specs.declared.Reply.{Reply}
 pub data Answer : Type 0 where
   refused : ℕ → ℕ → ℕ → Answer
   found : Sheet → ℕ → State → Outcome → Answer
+
+-- What is found for the jobs that are left from a state on.
+abbrev pub foundFrom : Sheet → State → Answer
+foundFrom s a = found s (jobsLeft s a) a (outcome s (jobsLeft s a) a)
 
 -- "Every figure of a refused reply not named is 0."
 abbrev pub refusedReply : ℕ → ℕ → ℕ → Reply
@@ -43,7 +49,8 @@ abbrev pub tableAfter : Answer → List ℕ → List ℕ
 tableAfter (refused number line field) table = table
 tableAfter (found s n a o) table = filled s table
 
--- The part afterwards: "A plan writes m level bytes to the start of the part", "nothing beyond"; every refusal leaves it.
+-- The part afterwards: "A plan writes m level bytes to the start of the part", "nothing beyond", and planned afresh "the
+-- part gets only the remaining levels"; every refusal leaves it.
 abbrev pub partAfter : Answer → List ℕ → List ℕ
 partAfter (refused number line field) part = part
 partAfter (found s n a (planned js)) part = js ++ drop n part

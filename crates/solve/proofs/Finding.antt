@@ -16,7 +16,7 @@ use Rattle.frame.specs.Plan.{least, plan, outcome}
 use Rattle.frame.specs.Table.{need, filled}
 use Rattle.frame.proofs.Run.{meets-peak}
 use Rattle.frame.proofs.Slack.{rounded-sound}
-use Rattle.frame.proofs.Demand2.{demand2}
+use Rattle.frame.proofs.Afresh.{left-demand2, spent-none}
 use Rattle.run.specs.Run.{stateOf}
 use Rattle.run.specs.declared.Run.{Run}
 use Rattle.table.specs.declared.Frame.{Frame}
@@ -27,19 +27,30 @@ use Rattle.table.proofs.Cells.{filled-words}
 use Rattle.walk.specs.Walk.{Starts}
 use Rattle.reply.specs.declared.Reply.{Reply}
 use Rattle.reply.specs.Answer.{found, plannedAs, refusedReply, tableAfter, partAfter, Answers}
-use Rattle.solve.specs.Solve.{Within, isPlan, Finds}
+use Rattle.solve.specs.Solve.{Origin, isPlan, Finds}
 
 -- ---- the start's word
 
-module _ {s : Sheet} {f : Frame} (x : Axes s f) (b : Run) (w : Within s (stateOf b)) where
+module _ {s : Sheet} {f : Frame} (x : Axes s f) (b : Run) (w : Origin s (stateOf b)) (u : b .energy ≤ s.energyBudget) where
   pub start-looks : {n : ℕ} → need s ≤ n → b .done < f .head .jobs → Looks f b n
-  start-looks h d = looks x b (w .level) (w .energy) (w .temperature) h d
+  start-looks h d = looks x b (w .range .level) u (w .temperature) h d
 
   pub start-rest : (words words' : List ℕ) (k : ℕ) → need s ≤ length words → words' ≡ filled s words → k ≡ restIn f words' b → k ≡ least s (s.jobs - b .done) (stateOf b)
   start-rest words words' k room t q =
-      q ∙ rest-by x b words' ∙ rest-least (x .ranges) (stateOf b) (rw t (filled-words s words (b .done) room)) (w .level) (w .energy) (w .temperature)
+      q ∙ rest-by x b words' ∙ rest-least (x .ranges) (stateOf b) (rw t (filled-words s words (b .done) room)) (w .range .level) u (w .temperature)
 
 -- ---- what is found
+
+module _ (s : Sheet) (n : ℕ) (a : State) where
+  found-none : {words words' bytes bytes' : List ℕ} → outcome s n a ≡ noPlan → words' ≡ filled s words → bytes' ≡ bytes → Finds s n a words words' bytes bytes' false
+  found-none {bytes = bytes} q w p =
+      let o = sym q in
+      record { plan = ap isPlan o; table = w; part = p ∙ ap (λ (z : Outcome). partAfter (found s n a z) bytes) o }
+
+  -- Energy past its limit: no plan, and the table is filled all the same.
+  pub finds-spent : {words words' bytes bytes' : List ℕ} → Ranges s → 1 ≤ n → a.peak ≤ s.temperatureLimit → s.energyBudget < a.energy →
+      words' ≡ filled s words → bytes' ≡ bytes → Finds s n a words words' bytes bytes' false
+  finds-spent ok some cool h w p = found-none (spent-none s ok n some a cool h) w p
 
 module _ (s : Sheet) (n : ℕ) (a : State) (k : ℕ) (e : k ≡ least s n a) where
   -- The deadline is compared with it alone.
@@ -52,9 +63,7 @@ module _ (s : Sheet) (n : ℕ) (a : State) (k : ℕ) (e : k ≡ least s n a) whe
   in-time h = rw (le-leb (a.time + least s n a) s.deadline (omega arith)) refl
 
   pub finds-none : {words words' bytes bytes' : List ℕ} → s.deadline < a.time + k → words' ≡ filled s words → bytes' ≡ bytes → Finds s n a words words' bytes bytes' false
-  finds-none {bytes = bytes} h w p =
-      let o = sym (late h) in
-      record { plan = ap isPlan o; table = w; part = p ∙ ap (λ (z : Outcome). partAfter (found s n a z) bytes) o }
+  finds-none h w p = found-none s n a (late h) w p
 
   pub finds-plan : {words words' bytes bytes' : List ℕ} → a.time + k ≤ s.deadline → words' ≡ filled s words → bytes' ≡ plan s n a ++ drop n bytes →
       Finds s n a words words' bytes bytes' true
@@ -63,12 +72,12 @@ module _ (s : Sheet) (n : ℕ) (a : State) (k : ℕ) (e : k ≡ least s n a) whe
       record { plan = ap isPlan o; table = w; part = p ∙ ap (λ (z : Outcome). partAfter (found s n a z) bytes) o }
 
 -- What the walk rests on.
-pub starts : {s : Sheet} {a : State} (k : ℕ) → Ranges s → Within s a → k ≡ least s (s.jobs - a.done) a → a.time + k ≤ s.deadline → Starts s a
-starts k ok w e h =
+pub starts : {s : Sheet} {a : State} (k : ℕ) → Ranges s → Origin s a → a.energy ≤ s.energyBudget → k ≡ least s (s.jobs - a.done) a → a.time + k ≤ s.deadline → Starts s a
+starts k ok w u e h =
     record {
       done = w .done;
-      level = w .level;
-      energy = w .energy;
+      level = w .range .level;
+      energy = u;
       temperature = w .temperature;
       way = omega (arith, ok .deadline);
     }
@@ -113,9 +122,9 @@ module _ (s : Sheet) (n : ℕ) (a : State) (words words' bytes bytes' : List ℕ
     pub answers-none : b ≡ false → (q : Reply) → q ≡ refusedReply 10 0 0 → Answers (found s n a (outcome s n a)) words words' bytes bytes' q
     answers-none t q e = on-none (outcome s n a) (sym (w .plan) ∙ t) (w .table) (w .part) q e
 
-    module _ (ok : Ranges s) (l : Within s a) (t : b ≡ true) where
+    module _ (ok : Ranges s) (some : 1 ≤ n) (l : Origin s a) (t : b ≡ true) where
       best : OutcomeDemand2 s n a (outcome s n a)
-      best = demand2 s n a (omega (arith, ok .deadline)) (l .peak) (l .time)
+      best = left-demand2 s ok n some a (l .peak)
 
       pub plan-levels : (i : ℕ) → i < n → getD bytes' i 0 < s.levels
       plan-levels i h = on-levels (outcome s n a) best (sym (w .plan) ∙ t) (w .part) i h

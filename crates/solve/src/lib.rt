@@ -5,8 +5,8 @@ ghost use Rattle.frame.specs.Sheet.{Sheet};
 ghost use Rattle.store.specs.Figures.{sheetOf};
 ghost use Rattle.run.specs.Run.{stateOf};
 ghost use Rattle.table.specs.Table.{Axes, Framed};
-ghost use Rattle.reply.specs.Answer.{Answers};
-ghost use Rattle.solve.specs.Solve.{foundFrom, Ready, Finds};
+ghost use Rattle.reply.specs.Answer.{foundFrom, Answers};
+ghost use Rattle.solve.specs.Solve.{Ready, Finds};
 use reply::Reply;
 use run::Run;
 use store::LEVELS_MAX;
@@ -31,6 +31,9 @@ fn find_plan(
     ensures { λ s b. ⌜ Finds s (s .jobs - start .done) (stateOf start) (now (table .entry)) (now (table .exit)) (now (part .entry)) (now (part .exit)) b ⌝ }
 {
     fill::fill(f, store, steady, table);
+    if (f.head.energy_budget as u64) < start.energy {
+        return false;
+    }
     let least = lookup::rest_of(f, table, start);
     if (f.head.deadline as u64) < start.time + least {
         return false;
