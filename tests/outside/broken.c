@@ -147,7 +147,8 @@ static int64_t reply_none(const struct plain_frame *frame, uint8_t *levels, cons
 // Answers with levels that are written, and the figures of their run.
 static int64_t reply_plan(const struct plain_frame *frame, const uint8_t *levels, struct begbija_reply *reply)
 {
-    struct plain_total total = plain_run(frame, levels);
+    const struct plain_reading first = plain_first_reading(frame);
+    struct plain_total total = plain_run(frame, &first, levels);
     *reply = (struct begbija_reply){0, 0, 0, total.time, total.energy, total.temperature, total.highest};
     return 0;
 }
@@ -182,7 +183,8 @@ static int64_t plan_below_limit(const uint8_t *sheet, size_t sheet_len, uint32_t
     fill_below_limit(&table);
     if (*plain_word(&table, 0, plain_start(frame)) > frame->deadline)
         return reply_none(frame, levels, before, reply);
-    plain_walk(&table, levels);
+    const struct plain_reading first = plain_first_reading(frame);
+    plain_walk(&table, &first, levels);
     return reply_plan(frame, levels, reply);
 }
 

@@ -55,7 +55,8 @@ static void check_short_lists(void)
 static bool check_border(const struct plain_frame *frame, const uint8_t *levels, const int64_t more[3])
 {
     static struct plain_frame at;
-    struct plain_total total = plain_run(frame, levels);
+    const struct plain_reading first = plain_first_reading(frame);
+    struct plain_total total = plain_run(frame, &first, levels);
     at = *frame;
     at.deadline = total.time + (uint64_t)more[0];
     at.energy_budget = total.energy + (uint64_t)more[1];

@@ -119,10 +119,12 @@ static bool search_answer(const struct plain_frame *frame, struct plain_answer *
     memset(due, 0, sizeof *due);
     due->frame = *frame;
     due->need = search_words(frame, table);
+    due->left = frame->jobs;
     due->refusal.number = found ? 0 : NO_PLAN;
     if (found) {
+        const struct plain_reading first = plain_first_reading(frame);
         memcpy(due->levels, fastest.levels, frame->jobs);
-        due->total = plain_run(frame, due->levels);
+        due->total = plain_run(frame, &first, due->levels);
     }
     return found && fastest.tied;
 }

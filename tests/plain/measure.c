@@ -10,7 +10,8 @@ struct plain_margins plain_measure(const struct plain_answer *answer, const uint
     for (unsigned place = 0; place < count; place++)
         if (levels[place] >= frame->levels)
             return (struct plain_margins){.refusal = {12, 0, place}};
-    struct plain_total total = plain_run(frame, levels);
+    const struct plain_reading first = plain_first_reading(frame);
+    struct plain_total total = plain_run(frame, &first, levels);
     return (struct plain_margins){
         .time = (int64_t)frame->deadline - total.time,
         .energy = (int64_t)frame->energy_budget - total.energy,

@@ -1,5 +1,5 @@
-// A plain planner straight from document 01. It shares no code with the library, which the tests hold to it and the benchmark
-// measures beside it.
+// A plain planner straight from document 01 and the change requests. It shares no code with the library, which the tests hold to
+// it and the benchmark measures beside it.
 #ifndef PLAIN_H
 #define PLAIN_H
 
@@ -18,7 +18,7 @@ enum {
     TEXT_BYTES_MIN = 4096     // a shorter part for text is refused; every plan's text fits it
 };
 
-#define FRAME_LIMIT_MAX 2000000000u // deadline, energy budget, energy step
+#define FRAME_LIMIT_MAX 2000000000u // deadline, energy budget, energy step, time and energy read
 #define TEMPERATURE_MAX 20000u
 #define NO_WAY UINT32_MAX // a table's word where no way exists
 
@@ -50,7 +50,12 @@ struct plain_frame {
     struct plain_job job[JOBS_MAX][LEVELS_MAX];
 };
 
-// A whole run without steps: how it ends, and the highest temperature at a job end.
+// What is read after so many jobs: the present level, the elapsed time, the energy spent and the temperature.
+struct plain_reading {
+    uint32_t done, level, time, energy, temperature;
+};
+
+// A run without steps to the frame's end: how it ends, and the highest temperature at the end of a job that it ran.
 struct plain_total {
     uint32_t time, energy, temperature, highest;
 };
@@ -60,6 +65,7 @@ struct plain_answer {
     struct plain_refusal refusal; // all 0 for a plan
     struct plain_frame frame;
     uint64_t need;
+    uint32_t left; // jobs still to do, and levels of a plan
     uint8_t levels[JOBS_MAX];
     struct plain_total total;
 };
@@ -83,13 +89,21 @@ struct plain_refusal plain_read(const uint8_t *sheet, size_t length, struct plai
 // Answers a sheet. The table is filled for a plan and for 10, else left alone; the part is not written to.
 void plain_plan(const uint8_t *sheet, size_t length, const struct plain_lent *lent, struct plain_answer *answer);
 
+// Answers a sheet for the jobs still to do, from what is read after the others. The table is filled whole, for the same answers.
+void plain_plan_afresh(const uint8_t *sheet, size_t length, const struct plain_reading *reading, const struct plain_lent *lent,
+                       struct plain_answer *answer);
+
 // Whether the answered sheet itself is refused, by 1 to 6.
 bool plain_refused(const struct plain_answer *answer);
 
 // The refusal where the answered sheet is lent other memory; the answer's own table has to have as many words or more.
 struct plain_refusal plain_refusal_with(const struct plain_answer *answer, const struct plain_lent *lent);
 
-struct plain_total plain_run(const struct plain_frame *frame, const uint8_t *levels);
+// What is read before the first job: the sheet's start.
+struct plain_reading plain_first_reading(const struct plain_frame *frame);
+
+// Runs the jobs still to do, one level for each.
+struct plain_total plain_run(const struct plain_frame *frame, const struct plain_reading *from, const uint8_t *levels);
 
 // Measures a list of so many levels on the answered sheet.
 struct plain_margins plain_measure(const struct plain_answer *answer, const uint8_t *levels, size_t count);

@@ -1,6 +1,6 @@
 // A job by document 01's rules, and the table's words. They stand inline, as the fill does nothing else for every word and level.
-// 32 bits hold all figures: times and energies of a run are below 64 * 20,000,000, a state within the limits is raised to below
-// 4,000,000,000, and no temperature is above 40,000.
+// 32 bits hold all figures: times and energies of a run are at most 64 * 20,000,000 above a reading of 2,000,000,000, a state
+// within the limits is raised to below 4,000,000,000, and no temperature is above 40,000.
 #ifndef RULE_H
 #define RULE_H
 
@@ -27,6 +27,12 @@ static inline uint32_t plain_divide_up(uint32_t number, uint32_t by)
 static inline uint32_t plain_steady_state(uint32_t power, uint32_t resistance)
 {
     return (power * resistance + 5000) / 10000;
+}
+
+// Where a run stands by a reading.
+static inline struct plain_state plain_state_read(const struct plain_reading *reading)
+{
+    return (struct plain_state){reading->level, reading->time, reading->energy, reading->temperature};
 }
 
 static inline struct plain_state plain_start(const struct plain_frame *frame)
@@ -115,7 +121,7 @@ static inline uint32_t plain_through(const struct plain_table *table, uint32_t d
 // Every word of the need.
 void plain_fill(const struct plain_table *table);
 
-// The first of the fastest lists in level order, by a filled table from whose start state there is a way.
-void plain_walk(const struct plain_table *table, uint8_t *levels);
+// The first of the fastest lists in level order for the jobs still to do, by a filled table that has a way from the reading.
+void plain_walk(const struct plain_table *table, const struct plain_reading *from, uint8_t *levels);
 
 #endif
