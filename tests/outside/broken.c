@@ -16,12 +16,18 @@ int64_t __real_begbija_plan(const uint8_t *sheet, size_t sheet_len, uint32_t *ta
 int64_t __real_begbija_measure(const uint8_t *sheet, size_t sheet_len, const uint8_t *levels, size_t levels_len,
                                struct begbija_margins *margins);
 int64_t __real_begbija_need(const uint8_t *sheet, size_t sheet_len);
+int64_t __real_begbija_plan_afresh(const uint8_t *sheet, size_t sheet_len, uint32_t done, uint32_t level, uint32_t time,
+                                   uint32_t energy, uint32_t temperature, uint32_t *table, size_t table_len, uint8_t *levels,
+                                   size_t levels_len, struct begbija_reply *reply);
 int64_t __wrap_begbija_plan_text(const uint8_t *sheet, size_t sheet_len, uint8_t *text, size_t text_len);
 int64_t __wrap_begbija_plan(const uint8_t *sheet, size_t sheet_len, uint32_t *table, size_t table_len, uint8_t *levels,
                             size_t levels_len, struct begbija_reply *reply);
 int64_t __wrap_begbija_measure(const uint8_t *sheet, size_t sheet_len, const uint8_t *levels, size_t levels_len,
                                struct begbija_margins *margins);
 int64_t __wrap_begbija_need(const uint8_t *sheet, size_t sheet_len);
+int64_t __wrap_begbija_plan_afresh(const uint8_t *sheet, size_t sheet_len, uint32_t done, uint32_t level, uint32_t time,
+                                   uint32_t energy, uint32_t temperature, uint32_t *table, size_t table_len, uint8_t *levels,
+                                   size_t levels_len, struct begbija_reply *reply);
 
 // Whether this is the defect that is tried.
 static bool is(const char *defect)
@@ -136,19 +142,25 @@ static void harm_reply(const uint8_t *sheet, size_t sheet_len, struct begbija_re
         (&reply->peak)[1] = 0;
 }
 
-// Answers "no plan" and leaves the levels as they were before.
-static int64_t reply_none(const struct plain_frame *frame, uint8_t *levels, const uint8_t *before, struct begbija_reply *reply)
+// Answers with a refusal.
+static int64_t reply_refusal(unsigned number, struct begbija_reply *reply)
 {
-    memcpy(levels, before, frame->jobs);
-    *reply = (struct begbija_reply){.refusal = 10};
-    return -10;
+    *reply = (struct begbija_reply){.refusal = number};
+    return -(int64_t)number;
+}
+
+// Answers "no plan" and leaves so many levels as they were before.
+static int64_t reply_none(size_t count, uint8_t *levels, const uint8_t *before, struct begbija_reply *reply)
+{
+    memcpy(levels, before, count);
+    return reply_refusal(10, reply);
 }
 
 // Answers with levels that are written, and the figures of their run.
-static int64_t reply_plan(const struct plain_frame *frame, const uint8_t *levels, struct begbija_reply *reply)
+static int64_t reply_plan(const struct plain_frame *frame, const struct plain_reading *from, const uint8_t *levels,
+                          struct begbija_reply *reply)
 {
-    const struct plain_reading first = plain_first_reading(frame);
-    struct plain_total total = plain_run(frame, &first, levels);
+    struct plain_total total = plain_run(frame, from, levels);
     *reply = (struct begbija_reply){0, 0, 0, total.time, total.energy, total.temperature, total.highest};
     return 0;
 }
@@ -158,7 +170,7 @@ static int64_t strict_deadline(const uint8_t *sheet, size_t sheet_len, uint8_t *
                                struct begbija_reply *reply)
 {
     const struct plain_frame *frame = &answer_again(sheet, sheet_len, false)->frame;
-    return reply->time < frame->deadline ? 0 : reply_none(frame, levels, before, reply);
+    return reply->time < frame->deadline ? 0 : reply_none(frame->jobs, levels, before, reply);
 }
 
 // Fills a table of as many words, but lets a job end only below the temperature limit.
@@ -180,12 +192,12 @@ static int64_t plan_below_limit(const uint8_t *sheet, size_t sheet_len, uint32_t
 {
     const struct plain_frame *frame = &answer_again(sheet, sheet_len, false)->frame;
     const struct plain_table table = plain_table_of(frame, words);
+    const struct plain_reading first = plain_first_reading(frame);
     fill_below_limit(&table);
     if (*plain_word(&table, 0, plain_start(frame)) > frame->deadline)
-        return reply_none(frame, levels, before, reply);
-    const struct plain_reading first = plain_first_reading(frame);
+        return reply_none(frame->jobs, levels, before, reply);
     plain_walk(&table, &first, levels);
-    return reply_plan(frame, levels, reply);
+    return reply_plan(frame, &first, levels, reply);
 }
 
 // Follows a filled table once more, and takes the highest of the levels that take the least time.
@@ -194,6 +206,7 @@ static int64_t walk_to_last(const uint8_t *sheet, size_t sheet_len, uint32_t *wo
 {
     const struct plain_frame *frame = &answer_again(sheet, sheet_len, false)->frame;
     const struct plain_table table = plain_table_of(frame, words);
+    const struct plain_reading first = plain_first_reading(frame);
     struct plain_state state = plain_start(frame);
     for (uint32_t done = 0; done < frame->jobs; done++) {
         uint32_t least = *plain_word(&table, done, state), level = frame->levels - 1;
@@ -203,7 +216,7 @@ static int64_t walk_to_last(const uint8_t *sheet, size_t sheet_len, uint32_t *wo
         levels[done] = (uint8_t)level;
         state = plain_after(frame, state, done, level);
     }
-    return reply_plan(frame, levels, reply);
+    return reply_plan(frame, &first, levels, reply);
 }
 
 // What is done to the levels of a plan; what they held before is needed to take it back.
@@ -237,10 +250,8 @@ int64_t __wrap_begbija_plan(const uint8_t *sheet, size_t sheet_len, uint32_t *ta
     uint8_t before[JOBS_MAX] = {0};
     struct begbija_reply reply_before = *reply;
     memcpy(before, levels, levels_len < JOBS_MAX ? levels_len : JOBS_MAX);
-    if (is("largest need refused") && table_len == TABLE_WORDS_MAX) {
-        *reply = (struct begbija_reply){.refusal = 7};
-        return -7;
-    }
+    if (is("largest need refused") && table_len == TABLE_WORDS_MAX)
+        return reply_refusal(7, reply);
     int64_t result = __real_begbija_plan(sheet, sheet_len, table, table_len, levels, levels_len, reply);
     if (result == 0 || result == -10) {
         harm_table(sheet, sheet_len, table, table_len);
@@ -313,4 +324,132 @@ int64_t __wrap_begbija_need(const uint8_t *sheet, size_t sheet_len)
     if (is("need in 32 bits") && need > 0)
         return (uint32_t)need;
     return need;
+}
+
+// A call of planning afresh.
+struct afresh {
+    const uint8_t *sheet;
+    size_t sheet_len;
+    struct plain_reading reading;
+    uint32_t *table;
+    size_t table_len;
+    uint8_t *levels;
+    size_t levels_len;
+    struct begbija_reply *reply;
+};
+
+static int64_t real_afresh(const struct afresh *call, struct plain_reading reading)
+{
+    return __real_begbija_plan_afresh(call->sheet, call->sheet_len, reading.done, reading.level, reading.time, reading.energy,
+                                      reading.temperature, call->table, call->table_len, call->levels, call->levels_len,
+                                      call->reply);
+}
+
+// The reading that is planned from instead of the one given.
+static struct plain_reading harm_reading(const struct plain_frame *frame, struct plain_reading reading)
+{
+    if (is("elapsed time left out of the deadline") && reading.time <= FRAME_LIMIT_MAX)
+        reading.time = 0;
+    if (is("start level for the level read") && reading.level < frame->levels)
+        reading.level = frame->start_level;
+    if (is("energy read raised a step too far") && reading.energy + frame->energy_step <= FRAME_LIMIT_MAX)
+        reading.energy += frame->energy_step;
+    return reading;
+}
+
+// How many words of a table that is filled are put back as they were lent.
+static size_t words_back(const struct afresh *call, const struct plain_answer *answer)
+{
+    const struct plain_frame *frame = &answer->frame;
+    if (answer->need > call->table_len || answer->need > TABLE_WORDS_MAX || call->reading.done >= frame->jobs)
+        return 0;
+    if (is("layers of the jobs done left"))
+        return answer->need / frame->jobs * call->reading.done;
+    return is("table left where the time is past the deadline") && call->reading.time > frame->deadline ? answer->need : 0;
+}
+
+// Plans from a reading that may be harmed; totals still count on from the one given.
+static int64_t plan_harmed(const struct afresh *call, const struct plain_answer *answer)
+{
+    static uint32_t before[TABLE_WORDS_MAX];
+    const struct plain_reading *given = &call->reading, harmed = harm_reading(&answer->frame, *given);
+    const size_t back = words_back(call, answer) * sizeof *before;
+    memcpy(before, call->table, back);
+    int64_t result = real_afresh(call, harmed);
+    if (result == 0 || result == -10)
+        memcpy(call->table, before, back);
+    if (result == 0) {
+        call->reply->time += (uint64_t)given->time - harmed.time;
+        call->reply->energy += (uint64_t)given->energy - harmed.energy;
+    }
+    return result;
+}
+
+// Plans once more by the filled table, the energy read not raised before the next job.
+static int64_t plan_unraised(const struct afresh *call, const struct plain_frame *frame, const uint8_t *before)
+{
+    const struct plain_table table = plain_table_of(frame, call->table);
+    const struct plain_reading *from = &call->reading;
+    struct plain_state state = plain_raised(frame, plain_state_read(from));
+    uint32_t least = NO_WAY, first = 0;
+    state.energy = from->energy;
+    for (uint32_t level = frame->levels; level > 0; level--) {
+        uint32_t time = plain_through(&table, from->done, state, level - 1);
+        first = time <= least ? level - 1 : first;
+        least = time <= least ? time : least;
+    }
+    if (least == NO_WAY || from->time + least > frame->deadline)
+        return reply_none(frame->jobs - from->done, call->levels, before, call->reply);
+    state = plain_after(frame, state, from->done, first);
+    call->levels[0] = (uint8_t)first;
+    const struct plain_reading next = {from->done + 1, state.level, state.time, state.energy, state.temperature};
+    plain_walk(&table, &next, call->levels + 1);
+    return reply_plan(frame, from, call->levels, call->reply);
+}
+
+// A refusal of a reading that is wrong or wrongly replied.
+static int64_t harm_reading_refusal(const struct afresh *call, const struct plain_frame *frame, int64_t result)
+{
+    if (is("13 and 14 swapped") && result <= -13)
+        return reply_refusal((unsigned)(27 + result), call->reply);
+    if (is("5 of a reading before 14") && result == -14 && call->reading.temperature > frame->temperature_limit)
+        return reply_refusal(5, call->reply);
+    if (is("place of the start temperature for a reading") && result == -5)
+        *call->reply = (struct begbija_reply){.refusal = 5, .line = 2, .field = 8};
+    return result;
+}
+
+// What is done to a plan for the jobs still to do.
+static void harm_afresh(const struct afresh *call, const struct plain_frame *frame)
+{
+    const struct plain_reading *reading = &call->reading;
+    const size_t left = frame->jobs - reading->done;
+    if (is("totals from the raised energy"))
+        call->reply->energy += plain_raised(frame, plain_state_read(reading)).energy - reading->energy;
+    if (is("peak of the temperature read"))
+        call->reply->peak = reading->temperature;
+    if (is("level beyond the jobs still to do") && left < call->levels_len)
+        call->levels[left] = 0;
+}
+
+int64_t __wrap_begbija_plan_afresh(const uint8_t *sheet, size_t sheet_len, uint32_t done, uint32_t level, uint32_t time,
+                                   uint32_t energy, uint32_t temperature, uint32_t *table, size_t table_len, uint8_t *levels,
+                                   size_t levels_len, struct begbija_reply *reply)
+{
+    const struct plain_reading reading = {done, level, time, energy, temperature};
+    const struct afresh call = {sheet, sheet_len, reading, table, table_len, levels, levels_len, reply};
+    const struct plain_answer *answer = answer_again(sheet, sheet_len, false);
+    uint8_t before[JOBS_MAX] = {0};
+    memcpy(before, levels, levels_len < JOBS_MAX ? levels_len : JOBS_MAX);
+    if (plain_refused(answer))
+        return real_afresh(&call, reading);
+    int64_t result = plan_harmed(&call, answer);
+    if (is("9 judged by all jobs") && result != -7 && result != -8 && levels_len < answer->frame.jobs)
+        return reply_refusal(9, reply);
+    if (is("energy read not raised") && (result == 0 || result == -10))
+        return plan_unraised(&call, &answer->frame, before);
+    if (result < 0)
+        return harm_reading_refusal(&call, &answer->frame, result);
+    harm_afresh(&call, &answer->frame);
+    return result;
 }

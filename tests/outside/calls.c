@@ -30,9 +30,24 @@ struct guarded_margins {
     uint8_t after[GUARD_FIGURES];
 };
 
+// What a planning call is lent.
+static struct {
+    uint32_t table[TABLE_WORDS_MAX + 1 + 2 * GUARD_WORDS];
+    uint8_t levels[PART_ROOM + 2 * GUARD_BYTES];
+    struct guarded_reply reply;
+} planning;
+
 unsigned long answer_sheet(const struct sheet *sheet, uint32_t *table, size_t words, struct plain_answer *answer)
 {
     plain_plan(lend_sheet(sheet), sheet->length, &(struct plain_lent){table, words, JOBS_MAX, false}, answer);
+    return count_answer(answer->refusal.number);
+}
+
+unsigned long answer_afresh(const struct sheet *sheet, const struct plain_reading *reading, uint32_t *table, size_t words,
+                            struct plain_answer *answer)
+{
+    const struct plain_lent lent = {table, words, JOBS_MAX, false};
+    plain_plan_afresh(lend_sheet(sheet), sheet->length, reading, &lent, answer);
     return count_answer(answer->refusal.number);
 }
 
@@ -85,27 +100,50 @@ static void check_reply(const struct guarded_reply *area, const struct plain_ans
     check_lent(&(struct lent){"figure", sizeof(uint64_t), area, GUARD_FIGURES, sizeof due, &due, sizeof due, fill});
 }
 
+static void fill_planning(size_t words, size_t bytes, uint8_t fill)
+{
+    fill_lent(planning.table, (words + 2 * GUARD_WORDS) * sizeof *planning.table, fill);
+    fill_lent(planning.levels, bytes + 2 * GUARD_BYTES, fill);
+    fill_lent(&planning.reply, sizeof planning.reply, fill);
+}
+
+// What a planning call returns, and every word, byte and figure that it was lent.
+static void check_planning(int64_t result, const struct plain_answer *answer, const uint32_t *answer_table, size_t words,
+                           size_t bytes, uint8_t fill)
+{
+    const size_t word = sizeof *planning.table;
+    struct plain_refusal refusal = plain_refusal_with(answer, &(struct plain_lent){NULL, words, bytes, false});
+    size_t filled = refusal.number == 0 || refusal.number == NO_PLAN ? answer->need : 0;
+    size_t written = refusal.number == 0 ? answer->left : 0;
+    check_result(result, -(int64_t)refusal.number);
+    check_lent(&(struct lent){"word", word, planning.table, GUARD_WORDS * word, words * word, answer_table, filled * word, fill});
+    check_lent(&(struct lent){"byte", 1, planning.levels, GUARD_BYTES, bytes, answer->levels, written, fill});
+    check_reply(&planning.reply, answer, refusal, fill);
+    end_call();
+}
+
 void check_plan(const struct sheet *sheet, const struct plain_answer *answer, const uint32_t *answer_table, size_t words,
                 size_t bytes, uint8_t fill)
 {
-    static uint32_t table[TABLE_WORDS_MAX + 1 + 2 * GUARD_WORDS];
-    static uint8_t area[PART_ROOM + 2 * GUARD_BYTES];
-    struct guarded_reply reply;
-    struct plain_refusal refusal = plain_refusal_with(answer, &(struct plain_lent){NULL, words, bytes, false});
-    size_t filled = refusal.number == 0 || refusal.number == NO_PLAN ? answer->need : 0;
-    size_t written = refusal.number == 0 ? answer->frame.jobs : 0;
-    fill_lent(table, (words + 2 * GUARD_WORDS) * sizeof *table, fill);
-    fill_lent(area, bytes + 2 * GUARD_BYTES, fill);
-    fill_lent(&reply, sizeof reply, fill);
+    fill_planning(words, bytes, fill);
     const uint8_t *lent = lend_sheet(sheet);
     begin_call("begbija_plan with %zu words and %zu bytes: ", words, bytes);
-    int64_t result = begbija_plan(lent, sheet->length, table + GUARD_WORDS, words, area + GUARD_BYTES, bytes, &reply.reply);
-    check_result(result, -(int64_t)refusal.number);
-    check_lent(&(struct lent){"word", sizeof *table, table, GUARD_WORDS * sizeof *table, words * sizeof *table, answer_table,
-                              filled * sizeof *table, fill});
-    check_lent(&(struct lent){"byte", 1, area, GUARD_BYTES, bytes, answer->levels, written, fill});
-    check_reply(&reply, answer, refusal, fill);
-    end_call();
+    int64_t result = begbija_plan(lent, sheet->length, planning.table + GUARD_WORDS, words, planning.levels + GUARD_BYTES, bytes,
+                                  &planning.reply.reply);
+    check_planning(result, answer, answer_table, words, bytes, fill);
+}
+
+void check_afresh(const struct sheet *sheet, const struct plain_reading *reading, const struct plain_answer *answer,
+                  const uint32_t *answer_table, size_t words, size_t bytes, uint8_t fill)
+{
+    fill_planning(words, bytes, fill);
+    const uint8_t *lent = lend_sheet(sheet);
+    begin_call("begbija_plan_afresh after %u jobs, level %u, time %u, energy %u, temperature %u, with %zu words and %zu bytes: ",
+               reading->done, reading->level, reading->time, reading->energy, reading->temperature, words, bytes);
+    int64_t result = begbija_plan_afresh(lent, sheet->length, reading->done, reading->level, reading->time, reading->energy,
+                                         reading->temperature, planning.table + GUARD_WORDS, words,
+                                         planning.levels + GUARD_BYTES, bytes, &planning.reply.reply);
+    check_planning(result, answer, answer_table, words, bytes, fill);
 }
 
 struct plain_margins check_measure(const struct sheet *sheet, const struct plain_answer *answer, const uint8_t *levels,
@@ -146,27 +184,51 @@ static void check_table(const struct sheet *sheet, const struct plain_answer *an
     check_plan(sheet, answer, answer_table, fits && fill == FILL ? (size_t)need : PLAN_TABLE_WORDS, JOBS_MAX, fill);
 }
 
-// A drawn list, the same spoiled, and the levels of a plan. A refused sheet has no jobs and levels to draw for; any will do.
+// What is drawn for: a refused sheet has no jobs and levels; any will do.
+static const struct plain_frame *drawn_for(const struct plain_answer *answer, uint64_t *seed)
+{
+    static struct plain_frame any;
+    any = (struct plain_frame){.jobs = 1 + draw(seed, JOBS_MAX), .levels = LEVELS_MAX};
+    return plain_refused(answer) ? &any : &answer->frame;
+}
+
+// A drawn list, the same spoiled, and the levels of a plan.
 static void check_lists(const struct sheet *sheet, const struct plain_answer *answer, uint64_t seed, uint8_t fill)
 {
-    struct plain_frame frame = {.jobs = 1 + draw(&seed, JOBS_MAX), .levels = LEVELS_MAX};
+    const struct plain_frame *frame = drawn_for(answer, &seed);
     uint8_t list[LIST_ROOM];
-    const struct plain_frame *drawn_for = plain_refused(answer) ? &frame : &answer->frame;
-    draw_list(&seed, drawn_for, list);
-    check_measure(sheet, answer, list, drawn_for->jobs, fill);
-    size_t count = spoil_list(&seed, drawn_for, list);
+    draw_list(&seed, frame, list);
+    check_measure(sheet, answer, list, frame->jobs, fill);
+    size_t count = spoil_list(&seed, frame, list);
     check_measure(sheet, answer, list, count, fill);
     if (answer->refusal.number == 0)
         check_measure(sheet, answer, answer->levels, answer->frame.jobs, fill);
 }
 
-// Demand 3 of the request for a plan: run without steps it meets every limit after every job. Time and energy do not fall.
+// Demand 3 of the request: run without steps, a plan meets every limit after every job. Time and energy do not fall.
 static void check_sound(const struct plain_answer *answer)
 {
     const struct plain_frame *frame = &answer->frame;
     const struct plain_total *total = &answer->total;
+    if (answer->refusal.number != 0)
+        return;
     check(total->time <= frame->deadline && total->energy <= frame->energy_budget && total->highest <= frame->temperature_limit,
           "the plan breaks a limit when run without steps");
+}
+
+// A drawn reading, with a table of the need where it fits.
+static void check_reading(const struct sheet *sheet, const struct plain_answer *answer, uint64_t seed, uint8_t fill)
+{
+    static struct plain_answer afresh;
+    static uint32_t table[PLAN_TABLE_WORDS];
+    const struct plain_frame *frame = drawn_for(answer, &seed);
+    uint8_t list[JOBS_MAX];
+    draw_list(&seed, frame, list);
+    struct plain_reading reading = draw_reading(&seed, frame, answer->refusal.number == 0 ? answer->levels : list);
+    size_t words = answer->need < PLAN_TABLE_WORDS ? answer->need : PLAN_TABLE_WORDS;
+    plain_plan_afresh(lend_sheet(sheet), sheet->length, &reading, &(struct plain_lent){table, words, JOBS_MAX, false}, &afresh);
+    check_afresh(sheet, &reading, &afresh, table, words, JOBS_MAX, fill);
+    check_sound(&afresh);
 }
 
 const struct plain_answer *check_sheet(const struct sheet *sheet)
@@ -178,7 +240,7 @@ const struct plain_answer *check_sheet(const struct sheet *sheet)
     check_text(sheet, &answer, TEXT_BYTES_MIN, fill);
     check_table(sheet, &answer, table, fill);
     check_lists(sheet, &answer, number, fill);
-    if (answer.refusal.number == 0)
-        check_sound(&answer);
+    check_reading(sheet, &answer, number, fill);
+    check_sound(&answer);
     return &answer;
 }

@@ -11,7 +11,7 @@
 #include <unistd.h>
 
 enum {
-    ANSWERS = 11,
+    ANSWERS = 15, // 0 for a plan, and the refusals
     FILL_PERIOD = 13 // bytes; below 16, so that the upper half of every byte is the fill's
 };
 
@@ -19,7 +19,7 @@ static const char failed_sheet[] = "target/outside/failed.sheet";
 
 static struct {
     const char *name;
-    unsigned long checks, sheets, answered[ANSWERS];
+    unsigned long checks, answers, answered[ANSWERS];
 } group;
 
 static unsigned long checks;
@@ -29,7 +29,7 @@ static struct {
     const struct sheet *sheet;
     const uint8_t *levels; // NULL where no list is lent
     size_t levels_count;
-    char lent[96];
+    char lent[160];
 } call;
 
 void begin_group(const char *name)
@@ -42,7 +42,7 @@ void begin_group(const char *name)
 
 void end_group(void)
 {
-    printf("%s: %lu sheets, %lu checks\n", group.name, group.sheets, group.checks);
+    printf("%s: %lu answers, %lu checks\n", group.name, group.answers, group.checks);
     fflush(stdout);
     checks += group.checks;
 }
@@ -92,14 +92,14 @@ void check(bool holds, const char *format, ...)
 unsigned long count_answer(unsigned refusal)
 {
     group.answered[refusal]++;
-    return group.sheets++;
+    return group.answers++;
 }
 
 void check_answered(unsigned refusal, unsigned long least)
 {
     unsigned long answered = group.answered[refusal];
     call.sheet = NULL;
-    check(answered >= least, "%lu of %lu sheets are answered with %u, expected %lu", answered, group.sheets, refusal, least);
+    check(answered >= least, "%lu of %lu answers are %u, expected %lu", answered, group.answers, refusal, least);
 }
 
 // The fault is raised inside a call, so none of the C library's locks is held.

@@ -25,10 +25,10 @@ unsigned long all_checks(void);
 // Counts a check; where it does not hold, says so of the call under way or of the sheet that was lent last, and ends the program.
 void check(bool holds, const char *format, ...) __attribute__((format(printf, 2, 3)));
 
-// Counts a sheet with its answer, a refusal or 0 for a plan, and hands back how many were counted before.
+// Counts an answer to a sheet, a refusal or 0 for a plan, and hands back how many were counted before.
 unsigned long count_answer(unsigned refusal);
 
-// Checks that so many sheets of the group or more were answered with a refusal, or with a plan, 0.
+// Checks that so many answers of the group or more were this refusal, or a plan, 0.
 void check_answered(unsigned refusal, unsigned long least);
 
 // Puts a sheet, or a list of levels, in front of a page that nothing may touch, so that reading beyond its end is seen.

@@ -5,7 +5,7 @@
 #include <begbija.h>
 
 // A version can be tested before the program is compiled, and is what its parts say.
-#if BEGBIJA_VERSION < 10000 || BEGBIJA_VERSION / 10000 != BEGBIJA_VERSION_MAJOR \
+#if BEGBIJA_VERSION < 10100 || BEGBIJA_VERSION / 10000 != BEGBIJA_VERSION_MAJOR \
     || BEGBIJA_VERSION / 100 % 100 != BEGBIJA_VERSION_MINOR || BEGBIJA_VERSION % 100 != BEGBIJA_VERSION_PATCH
 #error "BEGBIJA_VERSION is not made of its parts"
 #endif
@@ -32,7 +32,7 @@ FIGURE(begbija_margins, energy, 4);
 FIGURE(begbija_margins, temperature, 5);
 HOLDS(margins_size, sizeof(struct begbija_margins) == 48);
 
-HOLDS(last_refusal, BEGBIJA_LIST_LEVEL == 12);
+HOLDS(last_refusals, BEGBIJA_LIST_LEVEL == 12 && BEGBIJA_JOBS_DONE == 13 && BEGBIJA_READING == 14);
 HOLDS(no_way, BEGBIJA_NO_WAY == UINT32_MAX);
 HOLDS(sheet_max, BEGBIJA_SHEET_MAX == 20480 && BEGBIJA_JOBS_MAX == 64 && BEGBIJA_LEVELS_MAX == 8);
 HOLDS(table_max, BEGBIJA_TABLE_MAX == 4194304 && BEGBIJA_TABLE_INSIDE == 16384 && BEGBIJA_TEXT_MIN == 4096);
@@ -51,5 +51,10 @@ int main(void)
         return 2;
     if (begbija_measure(sheet, 0, levels, 0, &margins) != refused || margins.refusal != BEGBIJA_LINE)
         return 3;
-    return begbija_need(sheet, 0) == refused ? 0 : 4;
+    if (begbija_need(sheet, 0) != refused)
+        return 4;
+    if (begbija_plan_afresh(sheet, 0, 0, 0, 0, 0, 0, table, 1, levels, sizeof levels, &reply) != refused
+        || reply.refusal != BEGBIJA_LINE)
+        return 5;
+    return 0;
 }

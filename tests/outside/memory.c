@@ -23,6 +23,11 @@ static size_t jobs_tried(void)
     return plain_refused(&answer) ? 2 : answer.frame.jobs;
 }
 
+static size_t need_tried(void)
+{
+    return answer.need > 0 && answer.need <= TABLE_WORDS_MAX ? answer.need : 1144;
+}
+
 // begbija_plan_text with parts of every critical length.
 static void check_texts(uint8_t fill)
 {
@@ -36,12 +41,34 @@ static void check_texts(uint8_t fill)
 // begbija_plan with tables and parts of every critical length.
 static void check_plans(uint8_t fill)
 {
-    size_t need = answer.need > 0 && answer.need <= TABLE_WORDS_MAX ? answer.need : 1144, jobs = jobs_tried();
+    size_t need = need_tried(), jobs = jobs_tried();
     const size_t words[] = {0, 1, need - 1, need, need + 1};
     const size_t bytes[] = {0, 1, jobs - 1, jobs, jobs + 1, JOBS_MAX, 4096};
     for (size_t i = 0; i < sizeof words / sizeof words[0]; i++)
         for (size_t j = 0; j < sizeof bytes / sizeof bytes[0]; j++)
             check_plan(&sheet, &answer, answer_table, words[i], bytes[j], fill);
+}
+
+// begbija_plan_afresh from a reading, with tables and parts of every critical length.
+static void check_reading(const struct plain_reading *reading, uint8_t fill)
+{
+    static struct plain_answer afresh;
+    size_t need = need_tried(), jobs = jobs_tried(), left = jobs - reading->done;
+    const size_t words[] = {0, 1, need - 1, need, need + 1};
+    const size_t bytes[] = {0, left - (left > 0), left, left + 1, jobs, JOBS_MAX, 4096};
+    answer_afresh(&sheet, reading, answer_table, TABLE_WORDS_MAX, &afresh);
+    for (size_t i = 0; i < sizeof words / sizeof words[0]; i++)
+        for (size_t j = 0; j < sizeof bytes / sizeof bytes[0]; j++)
+            check_afresh(&sheet, reading, &afresh, answer_table, words[i], bytes[j], fill);
+}
+
+// The start, a cold frame after the first job, and no job left.
+static void check_readings(uint8_t fill)
+{
+    const struct plain_reading first = plain_first_reading(&answer.frame);
+    check_reading(&first, fill);
+    check_reading(&(struct plain_reading){.done = 1}, fill);
+    check_reading(&(struct plain_reading){.done = (uint32_t)jobs_tried()}, fill);
 }
 
 // Lists of the jobs' number and of others, with no level that is too high, with one at the end, and with nothing else.
@@ -71,6 +98,7 @@ static void check_lengths(unsigned refusal)
         uint8_t fill = i == 0 ? FILL : (uint8_t)~FILL;
         check_texts(fill);
         check_plans(fill);
+        check_readings(fill);
         check_measures(fill);
     }
 }
@@ -165,6 +193,17 @@ static void largest_frame(struct plain_frame *frame, uint64_t least_energy)
     }
 }
 
+// After half of the jobs; the table is filled whole.
+static void check_largest_afresh(void)
+{
+    const uint32_t half = JOBS_MAX / 2;
+    const struct plain_reading reading = {half, 3, 1000, 20, 50};
+    answer_afresh(&sheet, &reading, answer_table, TABLE_WORDS_MAX, &answer);
+    check_afresh(&sheet, &reading, &answer, answer_table, 4194304, half, FILL);
+    check_afresh(&sheet, &reading, &answer, answer_table, 4194303, half, FILL);
+    check_afresh(&sheet, &reading, &answer, answer_table, 4194304, half - 1, FILL);
+}
+
 static void check_largest(const char *name, uint64_t least_energy, unsigned refusal)
 {
     static struct plain_frame frame;
@@ -179,6 +218,7 @@ static void check_largest(const char *name, uint64_t least_energy, unsigned refu
     check_plan(&sheet, &answer, answer_table, 4194303, JOBS_MAX, FILL);
     check_plan(&sheet, &answer, answer_table, 4194304, JOBS_MAX - 1, FILL);
     check_text(&sheet, &answer, TEXT_BYTES_MIN, FILL);
+    check_largest_afresh();
 }
 
 void test_largest_table(const char *top)
@@ -193,4 +233,5 @@ void test_largest_table(const char *top)
     check(need == 4259840, "the need is %lld", (long long)need);
     check_plan(&sheet, &answer, answer_table, 4194304, JOBS_MAX, FILL);
     check_text(&sheet, &answer, TEXT_BYTES_MIN, FILL);
+    check_largest_afresh();
 }

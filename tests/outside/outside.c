@@ -11,6 +11,7 @@ static const struct {
     void (*test)(const char *top);
 } groups[] = {
     {"vectors", test_vectors},
+    {"stored calls", test_stored_calls},
     {"examples", test_examples},
     {"table inside", test_table_inside},
     {"changed sheets", test_changed_sheets},
@@ -20,6 +21,9 @@ static const struct {
     {"measured lists", test_measured_lists},
     {"document 01", test_document},
     {"all lists", test_all_lists},
+    {"all lists afresh", test_all_lists_afresh},
+    {"planned afresh", test_planned_afresh},
+    {"kept plans", test_kept_plans},
     {"random sheets", test_random_sheets},
     {"noise", test_noise},
     {"threads", test_threads},

@@ -75,17 +75,29 @@ static int64_t need_nothing(const uint8_t *sheet, size_t sheet_len)
     return 0;
 }
 
+static int64_t plan_nothing_afresh(const uint8_t *sheet, size_t sheet_len, uint32_t done, uint32_t level, uint32_t time,
+                                   uint32_t energy, uint32_t temperature, uint32_t *table, size_t table_len, uint8_t *levels,
+                                   size_t levels_len, struct begbija_reply *reply)
+{
+    (void)sheet, (void)sheet_len, (void)done, (void)level, (void)time, (void)energy, (void)temperature;
+    (void)table, (void)table_len, (void)levels, (void)levels_len, (void)reply;
+    return 0;
+}
+
 struct calls {
     int64_t (*plan_text)(const uint8_t *, size_t, uint8_t *, size_t);
     int64_t (*plan)(const uint8_t *, size_t, uint32_t *, size_t, uint8_t *, size_t, struct begbija_reply *);
     int64_t (*measure)(const uint8_t *, size_t, const uint8_t *, size_t, struct begbija_margins *);
     int64_t (*need)(const uint8_t *, size_t);
+    int64_t (*plan_afresh)(const uint8_t *, size_t, uint32_t, uint32_t, uint32_t, uint32_t, uint32_t, uint32_t *, size_t,
+                           uint8_t *, size_t, struct begbija_reply *);
 };
 
-const char *const library_names[LIBRARY_CALLS] = {"begbija_plan_text", "begbija_plan", "begbija_measure", "begbija_need"};
+const char *const library_names[LIBRARY_CALLS] = {"begbija_plan_text", "begbija_plan", "begbija_measure", "begbija_need",
+                                                  "begbija_plan_afresh"};
 
-static const struct calls library = {begbija_plan_text, begbija_plan, begbija_measure, begbija_need};
-static const struct calls nothing = {write_nothing, plan_nothing, measure_nothing, need_nothing};
+static const struct calls library = {begbija_plan_text, begbija_plan, begbija_measure, begbija_need, begbija_plan_afresh};
+static const struct calls nothing = {write_nothing, plan_nothing, measure_nothing, need_nothing, plan_nothing_afresh};
 
 // What is run on the painted stack: makecontext hands over no pointers. Which calls are made is not known to the compiler, so it
 // makes the empty ones in the same way.
@@ -93,7 +105,7 @@ static struct {
     const struct calls *volatile calls;
     enum library_call call;
     const uint8_t *sheet;
-    size_t sheet_len, levels_len;
+    size_t sheet_len, jobs;
 } current;
 
 // Makes the call that is measured, or the empty one, on memory that is not on the stack.
@@ -112,19 +124,23 @@ static void make_call(void)
         current.calls->plan(current.sheet, current.sheet_len, table, BEGBIJA_TABLE_MAX, levels, sizeof levels, &reply);
         break;
     case LIBRARY_MEASURE:
-        current.calls->measure(current.sheet, current.sheet_len, list, current.levels_len, &margins);
+        current.calls->measure(current.sheet, current.sheet_len, list, current.jobs, &margins);
+        break;
+    case LIBRARY_NEED:
+        current.calls->need(current.sheet, current.sheet_len);
         break;
     default:
-        current.calls->need(current.sheet, current.sheet_len);
+        current.calls->plan_afresh(current.sheet, current.sheet_len, (uint32_t)current.jobs / 2, 0, 0, 0, 0, table,
+                                   BEGBIJA_TABLE_MAX, levels, sizeof levels, &reply);
     }
 }
 
-size_t library_stack(enum library_call call, const uint8_t *sheet, size_t sheet_len, size_t levels_len)
+size_t library_stack(enum library_call call, const uint8_t *sheet, size_t sheet_len, size_t jobs)
 {
     current.call = call;
     current.sheet = sheet;
     current.sheet_len = sheet_len;
-    current.levels_len = levels_len < BEGBIJA_JOBS_MAX ? levels_len : BEGBIJA_JOBS_MAX;
+    current.jobs = jobs < BEGBIJA_JOBS_MAX ? jobs : BEGBIJA_JOBS_MAX;
     current.calls = &nothing;
     size_t least = painted_stack(make_call);
     current.calls = &library;

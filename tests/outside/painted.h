@@ -9,10 +9,18 @@
 size_t painted_stack(void (*run)(void));
 
 // The library's calls.
-enum library_call { LIBRARY_PLAN_TEXT, LIBRARY_PLAN, LIBRARY_MEASURE, LIBRARY_NEED, LIBRARY_CALLS };
+enum library_call {
+    LIBRARY_PLAN_TEXT,
+    LIBRARY_PLAN,
+    LIBRARY_MEASURE,
+    LIBRARY_NEED,
+    LIBRARY_PLAN_AFRESH,
+    LIBRARY_CALLS
+};
 extern const char *const library_names[LIBRARY_CALLS];
 
-// The stack of one of them on a sheet; a list of so many levels 0 is measured, 64 at most.
-size_t library_stack(enum library_call call, const uint8_t *sheet, size_t sheet_len, size_t levels_len);
+// The stack of one of them on a sheet of so many jobs: a list of as many levels 0 is measured, 64 at most, and it is planned
+// afresh after half of them.
+size_t library_stack(enum library_call call, const uint8_t *sheet, size_t sheet_len, size_t jobs);
 
 #endif

@@ -1,5 +1,6 @@
 // Small drawn sheets against a search over all lists of levels, with limits at the border of the best list and too little lent
-// memory. What is due comes from the search: the plain planner gives it single steps and the figures of a list's run alone.
+// memory; and the same for the jobs still to do, from readings of the best list's run, around it, and at the limits. What is due
+// comes from the search: the plain planner gives it single steps and the figures of a list's run alone.
 #include "calls.h"
 #include "groups.h"
 #include "rule.h"
@@ -9,6 +10,8 @@
 
 enum {
     DRAWN_SHEETS = 3000, // each is tried at every border of its best list too
+    READ_SHEETS = 4000,  // each is tried with its own limits and at one border
+    DRAWN_READINGS = 8,  // for each of these
     JOBS = 5,
     LEVELS = 3,
     DRAWN_WORDS = 2048,
@@ -31,12 +34,12 @@ static struct limits limits_of(const struct plain_frame *frame)
     return (struct limits){frame->deadline, frame->energy_budget, frame->temperature_limit};
 }
 
-// The limits of the request's third demand.
-static struct limits tightened(const struct plain_frame *frame)
+// The limits of the request's third demand, where energy and temperature are raised so many times.
+static struct limits tightened(const struct plain_frame *frame, uint32_t energy_raises, uint32_t temperature_raises)
 {
     struct limits limits = limits_of(frame);
-    limits.energy_budget -= (int64_t)(frame->jobs - 1) * (frame->energy_step - 1);
-    limits.temperature_limit -= (int64_t)frame->jobs * (frame->temperature_step - 1);
+    limits.energy_budget -= (int64_t)energy_raises * (frame->energy_step - 1);
+    limits.temperature_limit -= (int64_t)temperature_raises * (frame->temperature_step - 1);
     return limits;
 }
 
@@ -110,33 +113,36 @@ static size_t search_words(const struct plain_frame *frame, uint32_t *table)
     return word;
 }
 
-// The answer that is due by demand 2 of the request, with its table; whether another list takes the same time.
-static bool search_answer(const struct plain_frame *frame, struct plain_answer *due, uint32_t *table)
+// The answer that is due by demand 2 of the request, from a reading on, with a table of so many words; whether another list takes
+// the same time.
+static bool search_answer(const struct plain_frame *frame, const struct plain_reading *from, size_t words,
+                          struct plain_answer *due)
 {
     const struct limits limits = limits_of(frame);
     struct list fastest;
-    bool found = search_lists(frame, 0, plain_start(frame), &limits, true, &fastest);
+    bool found = search_lists(frame, from->done, plain_state_read(from), &limits, true, &fastest);
     memset(due, 0, sizeof *due);
     due->frame = *frame;
-    due->need = search_words(frame, table);
-    due->left = frame->jobs;
+    due->need = words;
+    due->left = frame->jobs - from->done;
     due->refusal.number = found ? 0 : NO_PLAN;
     if (found) {
-        const struct plain_reading first = plain_first_reading(frame);
-        memcpy(due->levels, fastest.levels, frame->jobs);
-        due->total = plain_run(frame, &first, due->levels);
+        memcpy(due->levels, fastest.levels + from->done, due->left);
+        due->total = plain_run(frame, from, due->levels);
     }
     return found && fastest.tied;
 }
 
-// Demand 3 of the request: a list within the tightened limits, run without steps, is no faster than the plan.
-static void check_tightened(const struct plain_answer *due)
+// Demand 3 of the request: a list within the tightened limits, run without steps, is no faster than the plan. Whether there is
+// such a list.
+static bool check_tightened(const struct plain_answer *due, const struct plain_reading *from, const struct limits *tight)
 {
-    const struct limits tight = tightened(&due->frame);
     struct list fastest;
-    if (search_lists(&due->frame, 0, plain_start(&due->frame), &tight, false, &fastest))
-        check(due->refusal.number == 0 && due->total.time <= fastest.time,
-              "a list within the tightened limits is faster than the plan, or there is no plan");
+    if (!search_lists(&due->frame, from->done, plain_state_read(from), tight, false, &fastest))
+        return false;
+    check(due->refusal.number == 0 && due->total.time <= fastest.time,
+          "a list within the tightened limits is faster than the plan, or there is no plan");
+    return true;
 }
 
 // Memory of the need with up to three words and bytes more, then a word short, a byte short, and both.
@@ -161,9 +167,11 @@ static unsigned check_searched(const char *name, unsigned long number, const str
     static uint32_t table[SEARCHED_WORDS];
     write_sheet(&sheet, frame);
     set_name(&sheet, "drawn sheet %lu, %s", number, name);
-    tied += search_answer(frame, &due, table);
+    const struct plain_reading first = plain_first_reading(frame);
+    const struct limits tight = tightened(frame, frame->jobs - 1, frame->jobs);
+    tied += search_answer(frame, &first, search_words(frame, table), &due);
     check_memory(&sheet, &due, table, number);
-    check_tightened(&due);
+    check_tightened(&due, &first, &tight);
     check_sheet(&sheet);
     return due.refusal.number;
 }
@@ -212,6 +220,16 @@ static bool can_search(const struct plain_frame *frame)
     return frame->start_temperature <= frame->temperature_limit && plain_need(&table) <= SEARCHED_WORDS;
 }
 
+// A frame with its limits at a border of a list.
+static struct plain_frame frame_at(const struct plain_frame *frame, const struct border *border, const struct list *best)
+{
+    struct plain_frame at = *frame;
+    at.deadline = limit_at(best->time, border->deadline, 0, FRAME_LIMIT_MAX);
+    at.energy_budget = limit_at(best->energy, border->energy_budget, 0, FRAME_LIMIT_MAX);
+    at.temperature_limit = limit_at(best->highest, border->temperature_limit, at.start_temperature, TEMPERATURE_MAX);
+    return at;
+}
+
 // A frame at every border; counts for each border how often there is no plan.
 static void check_borders(unsigned long number, const struct plain_frame *frame, unsigned long *without_plan)
 {
@@ -221,10 +239,7 @@ static void check_borders(unsigned long number, const struct plain_frame *frame,
         return;
     for (size_t i = 0; i < BORDERS; i++) {
         const struct border *border = &borders[i];
-        at = *frame;
-        at.deadline = limit_at(best.time, border->deadline, 0, FRAME_LIMIT_MAX);
-        at.energy_budget = limit_at(best.energy, border->energy_budget, 0, FRAME_LIMIT_MAX);
-        at.temperature_limit = limit_at(best.highest, border->temperature_limit, at.start_temperature, TEMPERATURE_MAX);
+        at = frame_at(frame, border, &best);
         if (!can_search(&at))
             continue;
         unsigned refusal = check_searched(border->name, number, &at);
@@ -251,4 +266,75 @@ void test_all_lists(const char *top)
     for (size_t i = 0; i < BORDERS; i++)
         check(without_plan[i] >= DRAWN_SHEETS / 8 || !is_below(&borders[i]), "%lu sheets have no plan with the %s",
               without_plan[i], borders[i].name);
+}
+
+// Readings from which a list keeps the tightened limits.
+static unsigned long promised;
+
+// Whether a reading is not refused by itself.
+static bool can_be_read(const struct plain_frame *frame, const struct plain_reading *reading)
+{
+    return reading->done < frame->jobs && reading->level < frame->levels && reading->time <= FRAME_LIMIT_MAX
+        && reading->energy <= FRAME_LIMIT_MAX && reading->temperature <= frame->temperature_limit;
+}
+
+// All checks of a reading. Memory is lent as for a whole plan: a little more, then a word or a byte short.
+static void check_read(const struct sheet *sheet, const struct plain_frame *frame, const struct plain_reading *reading,
+                       const uint32_t *table, size_t words)
+{
+    static struct plain_answer due;
+    if (!can_be_read(frame, reading))
+        return;
+    tied += search_answer(frame, reading, words, &due);
+    const struct limits tight = tightened(frame, due.left, due.left);
+    unsigned long number = count_answer(due.refusal.number);
+    const size_t more = number % 4;
+    const uint8_t fill = number / 4 % 2 == 0 ? FILL : (uint8_t)~FILL;
+    check_afresh(sheet, reading, &due, table, words + more, due.left + more, fill);
+    check_afresh(sheet, reading, &due, table, words - 1, due.left, fill);
+    check_afresh(sheet, reading, &due, table, words, due.left - 1, fill);
+    promised += check_tightened(&due, reading, &tight);
+}
+
+// Readings of a list's run at every job, and drawn ones.
+static void check_readings(const char *name, unsigned long number, const struct plain_frame *frame, const uint8_t *levels)
+{
+    static struct sheet sheet;
+    static uint32_t table[SEARCHED_WORDS];
+    uint64_t seed = number;
+    write_sheet(&sheet, frame);
+    set_name(&sheet, "drawn sheet %lu, %s", number, name);
+    size_t words = search_words(frame, table);
+    for (uint32_t done = 0; done < frame->jobs; done++) {
+        struct plain_reading reading = reading_after(frame, levels, done);
+        check_read(&sheet, frame, &reading, table, words);
+    }
+    for (int i = 0; i < DRAWN_READINGS; i++) {
+        struct plain_reading reading = draw_reading(&seed, frame, levels);
+        check_read(&sheet, frame, &reading, table, words);
+    }
+}
+
+void test_all_lists_afresh(const char *top)
+{
+    static struct plain_frame frame, at;
+    uint64_t seed = 9;
+    (void)top;
+    tied = 0;
+    for (unsigned long number = 0; number < READ_SHEETS; number++) {
+        const struct border *border = &borders[number % BORDERS];
+        struct list best;
+        draw_frame(&seed, JOBS, LEVELS, DRAWN_WORDS, &frame);
+        if (!find_best(&frame, number % 2 == 1, &best))
+            continue;
+        if (can_search(&frame))
+            check_readings("as drawn", number, &frame, best.levels);
+        at = frame_at(&frame, border, &best);
+        if (can_search(&at))
+            check_readings(border->name, number, &at, best.levels);
+    }
+    check_answered(0, 5 * READ_SHEETS);
+    check_answered(NO_PLAN, 2 * READ_SHEETS);
+    check(tied >= READ_SHEETS, "%lu plans are the first of several fastest lists, expected %d", tied, READ_SHEETS);
+    check(promised >= READ_SHEETS, "%lu readings have a list within the tightened limits, expected %d", promised, READ_SHEETS);
 }

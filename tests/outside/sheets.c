@@ -270,6 +270,65 @@ size_t spoil_list(uint64_t *seed, const struct plain_frame *frame, uint8_t *leve
     return count;
 }
 
+struct plain_reading reading_after(const struct plain_frame *frame, const uint8_t *levels, uint32_t done)
+{
+    struct plain_state state = plain_start(frame);
+    for (uint32_t job = 0; job < done; job++)
+        state = plain_after(frame, state, job, levels[job]);
+    return (struct plain_reading){done, state.level, state.time, state.energy, state.temperature};
+}
+
+// A figure at, next to, or somewhere below another.
+static uint32_t draw_near(uint64_t *seed, uint32_t figure)
+{
+    const uint32_t near[] = {figure, figure + 1, figure - (figure > 0), (uint32_t)draw(seed, (uint64_t)figure + 1)};
+    return near[draw(seed, 4)];
+}
+
+// A figure at or next to a limit or the end of a range, or beyond it.
+static uint32_t draw_end(uint64_t *seed, uint32_t limit, uint32_t most)
+{
+    const uint32_t ends[] = {0, limit - (limit > 0), limit, limit + 1, most, most + 1, UINT32_MAX};
+    return ends[draw(seed, 7)];
+}
+
+// One figure at the end of its range.
+static void draw_ends(uint64_t *seed, const struct plain_frame *frame, struct plain_reading *reading)
+{
+    switch (draw(seed, 5)) {
+    case 0:
+        reading->done = draw_end(seed, frame->jobs, JOBS_MAX);
+        break;
+    case 1:
+        reading->level = draw_end(seed, frame->levels, LEVELS_MAX);
+        break;
+    case 2:
+        reading->time = draw_end(seed, frame->deadline, FRAME_LIMIT_MAX);
+        break;
+    case 3:
+        reading->energy = draw_end(seed, frame->energy_budget, FRAME_LIMIT_MAX);
+        break;
+    default:
+        reading->temperature = draw_end(seed, frame->temperature_limit, TEMPERATURE_MAX);
+    }
+}
+
+struct plain_reading draw_reading(uint64_t *seed, const struct plain_frame *frame, const uint8_t *levels)
+{
+    struct plain_reading reading = reading_after(frame, levels, (uint32_t)draw(seed, frame->jobs));
+    uint64_t kind = draw(seed, 8);
+    if (kind >= 2) {
+        reading.time = draw_near(seed, kind == 2 ? frame->deadline : reading.time);
+        reading.energy = draw_near(seed, kind == 3 ? frame->energy_budget : reading.energy);
+        reading.temperature = draw_near(seed, kind == 4 ? frame->temperature_limit : reading.temperature);
+    }
+    if (kind == 5)
+        reading.level = (uint32_t)draw(seed, frame->levels);
+    if (kind >= 6)
+        draw_ends(seed, frame, &reading);
+    return reading;
+}
+
 // How many bytes stand from a place on before this one, or before the end.
 static size_t length_until(const struct sheet *sheet, size_t at, size_t end, uint8_t byte)
 {

@@ -11,11 +11,11 @@
 #include <stdlib.h>
 
 static const size_t stated[LIBRARY_CALLS] = {BEGBIJA_PLAN_TEXT_STACK, BEGBIJA_PLAN_STACK, BEGBIJA_MEASURE_STACK,
-                                             BEGBIJA_NEED_STACK};
+                                             BEGBIJA_NEED_STACK, BEGBIJA_PLAN_AFRESH_STACK};
 static size_t most[LIBRARY_CALLS];
 static struct sheet sheet, changed;
 
-// As many levels as the H line has jobs.
+// As many as the H line says.
 static size_t jobs_of(const struct sheet *from)
 {
     struct span field = find_field(from, 2, 2);
@@ -83,6 +83,7 @@ static bool hold_all(const char *top)
 {
     bool holds = true;
     try_stored(top, "tests/vectors/*.sheet");
+    try_stored(top, "tests/vectors/w1/*.sheet");
     try_stored(top, "tests/sheets/*.sheet");
     try_stored(top, "examples/*.sheet");
     try_stored(top, "examples/refused/*.sheet");

@@ -1,4 +1,4 @@
-// All four calls on four threads at once, on the same sheets, each with memory of its own: every answer has to be the one that a
+// All five calls on four threads at once, on the same sheets, each with memory of its own: every answer has to be the one that a
 // single thread got before.
 #define _POSIX_C_SOURCE 200809L
 
@@ -13,17 +13,24 @@
 
 enum { THREADS = 4, SHEETS = 40, ROUNDS = 50 };
 
-// What the calls give for a sheet; written whole, so that it can be compared byte by byte.
-struct results {
-    int64_t text, plan, measured, need;
+// What a planning call gives.
+struct planned {
+    int64_t result;
     struct begbija_reply reply;
-    struct begbija_margins margins;
-    uint8_t levels[JOBS_MAX], written[TEXT_BYTES_MIN];
+    uint8_t levels[JOBS_MAX];
     uint32_t table[PLAN_TABLE_WORDS];
 };
 
+// What the calls give for a sheet; written whole, so that it can be compared byte by byte.
+struct results {
+    int64_t text, measured, need;
+    struct planned plan, afresh;
+    struct begbija_margins margins;
+    uint8_t written[TEXT_BYTES_MIN];
+};
+
 static struct sheet sheets[SHEETS];
-static size_t jobs[SHEETS]; // as many levels are measured
+static size_t jobs[SHEETS]; // as many levels are measured, and after half of them it is planned afresh
 static struct results alone[SHEETS], together[THREADS];
 static pthread_barrier_t start;
 
@@ -32,10 +39,13 @@ static void make_calls(size_t number, struct results *results)
 {
     static const uint8_t list[JOBS_MAX];
     const struct sheet *sheet = &sheets[number];
+    struct planned *plan = &results->plan, *afresh = &results->afresh;
     memset(results, FILL, sizeof *results);
     results->text = begbija_plan_text(sheet->bytes, sheet->length, results->written, sizeof results->written);
-    results->plan = begbija_plan(sheet->bytes, sheet->length, results->table, PLAN_TABLE_WORDS, results->levels, JOBS_MAX,
-                                 &results->reply);
+    plan->result = begbija_plan(sheet->bytes, sheet->length, plan->table, PLAN_TABLE_WORDS, plan->levels, JOBS_MAX,
+                                &plan->reply);
+    afresh->result = begbija_plan_afresh(sheet->bytes, sheet->length, (uint32_t)jobs[number] / 2, 0, 0, 0, 0, afresh->table,
+                                         PLAN_TABLE_WORDS, afresh->levels, JOBS_MAX, &afresh->reply);
     results->measured = begbija_measure(sheet->bytes, sheet->length, list, jobs[number], &results->margins);
     results->need = begbija_need(sheet->bytes, sheet->length);
 }
