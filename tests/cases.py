@@ -1,7 +1,9 @@
 """Writes what the program `cases` is run on (crates/cases/stdin) and what it must print (crates/cases/stdout).
 
-The answers come from a reader, a run and a planner of their own, written from document 01 and not from the proved code.
-Run it from the repository's top: python3 tests/cases.py
+The answers come from a reader, a run and a planner of their own, written from document 01 and request W1 and not from the
+proved code. Run it from the repository's top: python3 tests/cases.py
+
+A reading is jobs done, present level, elapsed time, energy spent and temperature.
 """
 from functools import lru_cache
 
@@ -25,6 +27,8 @@ J	send
 B	28	25	32768
 B	15	40	32768
 """
+# Where its plan, run exactly, stands after its first job.
+READING = 1, 1, 20, 48, 2500
 
 
 class Refused(Exception):
@@ -114,10 +118,15 @@ class Frame:
         temperature = ceil_div(job[2] * temperature + (65536 - job[2]) * self.steady[level], 65536)
         return change[0] + job[0], energy + change[1] + job[1], temperature
 
-    def run(self, levels):
-        """Time, energy and temperature of a list's exact run, and its highest temperature at a job end."""
-        before, time, energy, temperature, highest = self.start_level, 0, 0, self.start_temperature, 0
-        for i, level in enumerate(levels):
+    def start(self):
+        """The reading before the first job."""
+        return 0, self.start_level, 0, 0, self.start_temperature
+
+    def run(self, levels, reading):
+        """Time, energy and temperature of a list's exact run from a reading on, and its highest temperature at a job end."""
+        done, before, time, energy, temperature = reading
+        highest = 0
+        for i, level in enumerate(levels, done):
             taken, energy, temperature = self.after(i, before, energy, temperature, level)
             before, time, highest = level, time + taken, max(highest, temperature)
         return time, energy, temperature, highest
@@ -143,8 +152,8 @@ class Frame:
             if energy <= self.energy_budget and temperature <= self.temperature_limit:
                 yield level, time, self.energy_cell(energy), self.temperature_cell(temperature)
 
-    def plan(self):
-        """The words of the table, and the plan, or None."""
+    def plan(self, reading):
+        """The words of the table, and the plan of the jobs left from a reading on, or None."""
 
         @lru_cache(None)
         def least(i, before, a, b):
@@ -155,11 +164,12 @@ class Frame:
         energies, temperatures = map(range, self.cells())
         places = [(i, p) for i in range(self.jobs) for p in range(self.levels)]
         table = [least(i, p, a, b) for i, p in places for a in energies for b in temperatures]
-        at = self.start_level, 0, self.temperature_cell(self.start_temperature)
-        left, levels = least(0, *at), []
-        if left > self.deadline:
+        done, level, time, energy, temperature = reading
+        at = level, self.energy_cell(energy), self.temperature_cell(temperature)
+        left, levels = least(done, *at), []
+        if time + left > self.deadline:
             return table, None
-        for i in range(self.jobs):
+        for i in range(done, self.jobs):
             for level, time, *cell in self.ways(i, *at):
                 if time + least(i + 1, level, *cell) == left:
                     break
@@ -176,26 +186,45 @@ def measure(sheet, levels):
     for place, level in enumerate(levels):
         if level >= f.levels:
             raise Refused(12, 0, place)
-    time, energy, _, highest = f.run(levels)
+    time, energy, _, highest = f.run(levels, f.start())
     return f.deadline - time, f.energy_budget - energy, f.temperature_limit - highest
 
 
-def plan(sheet, words, size):
-    """The planner's refusal, the figures of its plan, the plan's levels, and the words that it writes to the table."""
+def test_lent(f, words, size, done):
+    """Refuses a table that is too large or too short, and a part under one byte for each job still to do."""
+    if f.need() > 4194304:
+        raise Refused(7, 0, 0)
+    if f.need() > words:
+        raise Refused(8, 0, 0)
+    if max(0, f.jobs - done) > size:
+        raise Refused(9, 0, 0)
+
+
+def test_reading(f, done, level, time, energy, temperature):
+    """Refuses jobs done that leave none to do, figures out of their ranges, and a temperature above the limit."""
+    if done >= f.jobs:
+        raise Refused(13, 0, 0)
+    if level >= f.levels or max(time, energy) > 2 * 10**9 or temperature > 20000:
+        raise Refused(14, 0, 0)
+    if temperature > f.temperature_limit:
+        raise Refused(5, 0, 0)
+
+
+def plan(sheet, words, size, reading=None):
+    """What is answered to a sheet, planned from its start or afresh from a reading: the refusal, the figures of the plan, its
+    levels, and the words that are written to the table."""
     try:
         f = Frame(sheet)
-        if f.need() > 4194304:
-            raise Refused(7, 0, 0)
-        if f.need() > words:
-            raise Refused(8, 0, 0)
-        if f.jobs > size:
-            raise Refused(9, 0, 0)
+        test_lent(f, words, size, reading[0] if reading else 0)
+        if reading:
+            test_reading(f, *reading)
     except Refused as e:
         return e.args, (0, 0, 0), (), []
-    table, levels = f.plan()
+    reading = reading or f.start()
+    table, levels = f.plan(reading)
     if levels is None:
         return (10, 0, 0), (0, 0, 0), (), table
-    return (0, 0, 0), f.run(levels)[:3], tuple(levels), table
+    return (0, 0, 0), f.run(levels, reading)[:3], tuple(levels), table
 
 
 def names(sheet):
@@ -206,19 +235,27 @@ def names(sheet):
     return [work[i][0] if i < len(work) else b"" for i in (0, 1, 64)]
 
 
-def answer(note, sheet, levels, words, size):
+def measured(sheet, levels):
+    """What is printed of a list that is measured."""
     refusal, margins = (0, 0, 0), (0, 0, 0)
     try:
         margins = measure(sheet, levels)
     except Refused as e:
         refusal = e.args
-    measured = [b"%d" % x for x in (*refusal, *margins)]
-    refusal, figures, written, table = plan(sheet, words, size)
-    part = b"".join(b"%d" % x for x in written).ljust(BYTES, b"%d" % UNWRITTEN)
+    return [b"%d" % x for x in (*refusal, *margins)]
+
+
+def answered(refusal, figures, levels, table):
+    """What is printed of an answer, and of the memory after it."""
+    part = b"".join(b"%d" % x for x in levels).ljust(BYTES, b"%d" % UNWRITTEN)
     # each word counts once for each place from its own to the end of the table
     weighed = sum(word * (WORDS - place) for place, word in enumerate(table))
-    answered = [b"%d" % x for x in (*refusal, *figures)] + [part, b"%d" % weighed]
-    return b"\t".join([note, *measured, *names(sheet), *answered]) + b"\n"
+    return [b"%d" % x for x in (*refusal, *figures)] + [part, b"%d" % weighed]
+
+
+def answer(note, sheet, levels, words, size, reading):
+    answers = answered(*plan(sheet, words, size)) + answered(*plan(sheet, words, size, reading))
+    return b"\t".join([note, *measured(sheet, levels), *names(sheet), *answers]) + b"\n"
 
 
 def changed(line, field, value, sheet=SHEET):
@@ -365,28 +402,150 @@ def planned():
         yield "words %d, bytes %d" % (words, size), SHEET, (1, 0), words, size, want
     yield "D 48, bytes 1: 9 before 10", with_head(SHEET, D=48), (1, 0), WORDS, 1, (9, 0, 0)
     frame = long_frame()
-    levels = tuple(Frame(frame).plan()[1])
-    yield "64 jobs", frame, levels, WORDS, BYTES, (levels, *Frame(frame).run(levels)[:3])
+    levels = tuple(Frame(frame).plan(Frame(frame).start())[1])
+    yield "64 jobs", frame, levels, WORDS, BYTES, (levels, 1270, 20, 105)
     yield "64 jobs, bytes 63", frame, levels, WORDS, 63, (9, 0, 0)
 
 
-def check_planned(cases):
-    """Holds the planner here to the answers: a plan's levels, time, energy and temperature, or a refusal."""
-    for note, sheet, _, words, size, want in cases:
-        refusal, figures, levels, _ = plan(sheet, words, size)
-        assert (refusal if any(refusal) else (levels, *figures)) == want, note
+def read_after(**figures):
+    """The reading after the first job of document 01's plan, some of its figures changed."""
+    names = "done", "level", "time", "energy", "temperature"
+    return tuple(figures.get(name, value) for name, value in zip(names, READING))
+
+
+def read_borders():
+    """Each figure of a reading at both sides of its borders, on document 01's sheet: D 50, W 100, C 2500, g 10."""
+    last, most = 4294967295, 2 * 10**9
+    for name, wants in (
+        ("done", {0: 10, 1: ((0,), 49, 76, 2250), 2: 13, last: 13}),
+        ("level", {0: ((0,), 48, 73, 2250), 1: ((0,), 49, 76, 2250), 2: 14, last: 14}),
+        ("time", {21: ((0,), 50, 76, 2250), 22: 10, 50: 10, 51: 10, most: 10, most + 1: 14, last: 14}),
+        ("energy", {70: ((0,), 49, 98, 2250), 71: 10, 100: 10, 101: 10, most: 10, most + 1: 14, last: 14}),
+        ("temperature", {0: ((1,), 35, 88, 2000), 2500: ((0,), 49, 76, 2250), 2501: 5, 20000: 5, 20001: 14, last: 14}),
+    ):
+        for value, want in wants.items():
+            yield "afresh, %s %d" % (name, value), SHEET, WORDS, BYTES, read_after(**{name: value}), want
+
+
+def read_lent():
+    """The borders of lent memory, which the jobs done move."""
+    start, frame = (0, 0, 0, 0, 1000), long_frame()
+    for sheet, words, size, reading, want in (
+        (SHEET, 1144, 1, READING, ((0,), 49, 76, 2250)),
+        (SHEET, 1143, 1, READING, 8),
+        (SHEET, 1144, 0, READING, 9),
+        (SHEET, 1144, 2, start, ((1, 0), 49, 76, 2250)),
+        (SHEET, 1144, 1, start, 9),
+        (SHEET, 1144, 0, read_after(done=2), 13),
+        (SHEET, 1144, 0, read_after(done=4294967295), 13),
+        (frame, 16128, 1, (63, 0, 1250, 19, 108), ((0,), 1270, 20, 105)),
+        (frame, 16127, 1, (63, 0, 1250, 19, 108), 8),
+        (frame, 16128, 0, (63, 0, 1250, 19, 108), 9),
+        (frame, 16128, 31, (32, 1, 609, 12, 312), 9),
+    ):
+        yield "afresh, words %d, bytes %d, done %d" % (words, size, reading[0]), sheet, words, size, reading, want
+
+
+def read_order():
+    """Which refusal comes first where several apply."""
+    large = with_head(full(64, 8, b"x", 1, 0), start=0, W=64, g=1, C=127, h=1)
+    wrong = 2, 2, 2000000001, 2000000001, 20001
+    for note, sheet, words, size, reading, want in (
+        ("version 9 and all else wrong", changed(1, 2, 9), 0, 0, wrong, (4, 1, 2)),
+        ("both kinds of 5", with_head(SHEET, start=2501), WORDS, BYTES, read_after(temperature=2501), (5, 2, 8)),
+        ("7 and 8", large, 0, 0, wrong, 7),
+        ("8 and 9", SHEET, 1143, 0, READING, 8),
+        ("8 and 13", SHEET, 1143, 0, wrong, 8),
+        ("9 and 14", SHEET, WORDS, 0, read_after(level=2), 9),
+        ("9 and 5", SHEET, WORDS, 0, read_after(temperature=2501), 9),
+        ("9 and 10", SHEET, WORDS, 0, read_after(time=51), 9),
+        ("13 and 14", SHEET, WORDS, 0, wrong, 13),
+        ("13 and 5", SHEET, WORDS, BYTES, read_after(done=2, temperature=2501), 13),
+        ("13 and 10", SHEET, WORDS, BYTES, read_after(done=2, time=51), 13),
+        ("14 by the level and 5", SHEET, WORDS, BYTES, read_after(level=2, temperature=2501), 14),
+        ("14 by the time and 5", SHEET, WORDS, BYTES, read_after(time=2000000001, temperature=2501), 14),
+        ("14 by the energy and 5", SHEET, WORDS, BYTES, read_after(energy=2000000001, temperature=2501), 14),
+        ("5 and 10", SHEET, WORDS, BYTES, read_after(time=51, energy=101, temperature=2501), 5),
+    ):
+        yield "afresh, " + note, sheet, words, size, reading, want
+
+
+def read_figures():
+    """What readings do to a plan: raised before the next job, they count as read in the totals."""
+    most, free, coarse = 2 * 10**9, full(3, 2, b"a", 10**7, 0), with_head(SHEET, h=1200)
+    latest, odd = with_head(SHEET, D=most), with_head(free, g=most - 1)
+    hot = changed(8, 4, 32768, with_head(full(2, 1, b"a", 1, 0), start=0, R=0, h=19999))
+    for note, sheet, reading, want in (
+        ("energy 61 is raised to 70, the total is not", SHEET, read_after(energy=61), ((0,), 49, 89, 2250)),
+        ("energy 71 leaves enough, raised to 80 it does not", SHEET, read_after(energy=71), 10),
+        ("h 1200, temperature 2400", coarse, read_after(temperature=2400), ((0,), 49, 76, 2200)),
+        ("h 1200, temperature 2401 is raised to 3600", coarse, read_after(temperature=2401), 10),
+        ("cooler and faster", SHEET, read_after(temperature=1000), ((1,), 35, 88, 2500)),
+        ("nothing done, energy 1", SHEET, (0, 0, 0, 1, 1000), ((1, 0), 49, 77, 2250)),
+        ("nothing done, W 78, energy 1", with_head(SHEET, W=78), (0, 0, 0, 1, 1000), 10),
+        ("nothing done, level 1", SHEET, (0, 1, 0, 0, 1000), ((1, 0), 47, 73, 2250)),
+        ("D 2000000000, time 1999999971", latest, read_after(time=1999999971), ((0,), 2000000000, 76, 2250)),
+        ("D 2000000000, time 1999999972", latest, read_after(time=1999999972), 10),
+        ("D 2000000000, time 1, no way", with_head(latest, W=0), read_after(time=1, energy=0), 10),
+        ("the highest figures, first of equal lists", free, (1, 1, most - 20000000, most, 20000), ((0, 0), most, most, 20000)),
+        ("the highest figures, time one above", free, (1, 1, most - 19999999, most, 20000), 10),
+        ("g 1999999999, energy 1999999999", odd, (1, 1, 0, most - 1, 20000), ((0, 0), 20000000, most - 1, 20000)),
+        ("g 1999999999, energy 2000000000", odd, (1, 1, 0, most, 20000), 10),
+        ("temperature 20000 is raised to 39998", hot, (1, 0, 0, 0, 20000), ((0,), 1, 0, 10000)),
+    ):
+        yield "afresh, " + note, sheet, WORDS, BYTES, reading, want
+
+
+def kept():
+    """Readings of a plan that is kept: the answer ends no later. One above, in time, energy or temperature, it may be 10."""
+    tight, slow, frame = with_head(SHEET, D=47, W=63, C=2750), with_head(SHEET, C=2499, D=58), long_frame()
+    sixteen = 0, 0, 0, 0, 0, 0, 1, 1, 0, 0, 0, 0, 0, 0, 0, 0
+    sooner = 0, 1, 1, 0, 0, 0, 0, 0, 0, 0, 0, 0, 1, 1, 0, 1, *sixteen
+    for note, sheet, reading, want in (
+        ("nothing done", tight, (0, 0, 0, 0, 1000), ((0, 1), 47, 63, 2750)),
+        ("nothing done, time one above: 10", tight, (0, 0, 1, 0, 1000), 10),
+        ("nothing done, energy one above: 10", tight, (0, 0, 0, 1, 1000), 10),
+        ("nothing done, temperature one above: 10", tight, (0, 0, 0, 0, 1001), 10),
+        ("1 done", tight, (1, 0, 30, 20, 1500), ((1,), 47, 63, 2750)),
+        ("1 done, time one below", tight, (1, 0, 29, 20, 1500), ((1,), 46, 63, 2750)),
+        ("1 done, time one above: 10", tight, (1, 0, 31, 20, 1500), 10),
+        ("1 done, energy one below", tight, (1, 0, 30, 19, 1500), ((1,), 47, 62, 2750)),
+        ("1 done, energy one above: 10", tight, (1, 0, 30, 21, 1500), 10),
+        ("1 done, temperature one below", tight, (1, 0, 30, 20, 1499), ((1,), 47, 63, 2750)),
+        ("1 done, temperature one above: 10", tight, (1, 0, 30, 20, 1501), 10),
+        ("C 2499 and D 58", slow, (1, 0, 30, 20, 1500), ((0,), 58, 45, 1750)),
+        ("C 2499 and D 58, another level: 10", slow, (1, 1, 30, 20, 1500), 10),
+        ("32 of 64 done: ends 2 sooner", frame, (32, 1, 609, 12, 312), (sooner, 1268, 20, 105)),
+        ("48 of 64 done", frame, (48, 1, 929, 17, 424), (sixteen, 1270, 20, 105)),
+        ("48 of 64 done, time one above: 10", frame, (48, 1, 930, 17, 424), 10),
+        ("48 of 64 done, energy one above: 10", frame, (48, 1, 929, 18, 424), 10),
+    ):
+        yield "afresh, kept plan, " + note, sheet, WORDS, BYTES, reading, want
+
+
+def check(cases):
+    """Holds the planner here to the answers: a plan's levels, time, energy and temperature, or a refusal, which may be its number
+    alone. A case has a reading where it is planned afresh."""
+    for note, *lent, want in cases:
+        refusal, figures, levels, _ = plan(*lent)
+        assert (refusal if any(refusal) else (levels, *figures)) == ((want, 0, 0) if isinstance(want, int) else want), note
 
 
 def main():
-    held = list(planned())
-    check_planned(held)
-    cases = [(*case, WORDS, BYTES) for group in (printed, edges, forms, lines) for case in group()] + [case[:-1] for case in held]
+    from_start = list(planned())
+    afresh = [case for group in (read_borders, read_lent, read_order, read_figures, kept) for case in group()]
+    check((note, sheet, words, size, want) for note, sheet, _, words, size, want in from_start)
+    check(afresh)
+    cases = [(*case, WORDS, BYTES, READING) for group in (printed, edges, forms, lines) for case in group()]
+    cases += [(*case[:-1], READING) for case in from_start]
+    cases += [(note, sheet, (), *lent) for note, sheet, *lent, _ in afresh]
     data = out = b""
-    for note, sheet, levels, words, size in cases:
-        parts = note.encode(), sheet, bytes(levels), b"%d" % words, b"%d" % size
+    for note, sheet, levels, words, size, reading in cases:
+        numbers = b"\t".join(b"%d" % x for x in (words, size, *reading))
+        parts = note.encode(), sheet, bytes(levels), numbers
         assert not any(b"\f" in part for part in parts)
         data += b"".join(part + b"\f" for part in parts)
-        out += answer(*parts[:3], words, size)
+        out += answer(*parts[:3], words, size, reading)
     with open("crates/cases/stdin", "wb") as file:
         file.write(data)
     with open("crates/cases/stdout", "wb") as file:

@@ -1,9 +1,11 @@
-// Runs the measuring call, the job names and the planner on the cases of standard input, and prints a line for each case.
+// Runs the measuring call, the job names, the planner and planning afresh on the cases of standard input, and prints a line for
+// each case.
 //
-// A case is five parts, each ended by a form feed: a note, a sheet, a list of levels, a byte each, and how many words and bytes
-// to lend to the planner. Its line has the note; of the measuring call the refusal's number, line and field and the three margins;
-// the names of jobs 0, 1 and 64; of the planner the refusal's number, line and field and the plan's time, energy and final
-// temperature; and what it left in memory: the bytes of the part as digits, and the table's words in one figure.
+// A case is four parts, each ended by a form feed: a note, a sheet, a list of levels, a byte each, and seven numbers parted by
+// tabs: how many words and bytes to lend to the planner, and a reading to plan afresh from: jobs done, level, time, energy and
+// temperature. Its line has the note; of the measuring call the refusal's number, line and field and the three margins; the names
+// of jobs 0, 1 and 64; and twice, of the planner and of planning afresh, the refusal's number, line and field, the plan's time,
+// energy and final temperature, and what was left in memory: the bytes of the part as digits, and the table's words in one figure.
 ghost use Prim.Native.Nat.{_≤_, _<_};
 ghost use lib.ListN.{length};
 ghost use Rattle.store.specs.Store.{jobsMax};
@@ -13,9 +15,13 @@ use numbers::Field;
 use reply::Reply;
 use std::num;
 use store::JOBS_MAX;
+use text::TAB;
 
 // The memory of which the first words and bytes are lent to the planner.
 const TABLE_SIZE: usize = 16_384;
+
+// The largest figure of a reading.
+const FIGURE_MAX: usize = 4_294_967_295;
 
 type Table = [u32; TABLE_SIZE];
 
@@ -96,23 +102,45 @@ fn weigh(table: &Table) -> u64 {
     weighed
 }
 
-// Plans a sheet with the first words of a table of zeros and the first bytes of a part that holds no levels, and writes the reply
-// and what the whole table and part then hold.
+// Writes a reply, and what the whole table and part hold after it.
+fn print_answer(q: Reply, table: &Table, part: &Part) {
+    print_reply(q);
+    print_part(part);
+    print_number(weigh(table));
+}
+
+// Plans a sheet with the first words of a table of zeros and the first bytes of a part that holds no levels.
 fn print_plan(s: &[u8], words: usize, bytes: usize)
     requires { ⌜ (words ≤ 16384) × (bytes ≤ jobsMax) ⌝ }
 {
     let mut table: Table = [0; TABLE_SIZE];
     let mut part: Part = [9; JOBS_MAX];
-    print_reply(planner::plan(s, &mut table[..words], &mut part[..bytes]));
-    print_part(&part);
-    print_number(weigh(&table));
+    let q = planner::plan(s, &mut table[..words], &mut part[..bytes]);
+    print_answer(q, &table, &part);
 }
 
-// The number that a part of a case is, at most `most`; 0 where it is none.
-fn number_in(s: &[u8], most: usize) -> usize
+// Where the field at place i, from 0, starts in a part whose fields are parted by tabs: at its end where it has none.
+fn find_field(s: &[u8], i: usize) -> usize
+    ensures { λ r. ⌜ r ≤ length (now (s .entry)) ⌝ }
+{
+    let mut at: usize = 0;
+    let mut k: usize = 0;
+    while k < i {
+        let tab = text::find(s, at, s.len(), TAB);
+        if tab == s.len() {
+            return tab;
+        }
+        at = tab + 1;
+        k += 1;
+    }
+    at
+}
+
+// The number in the field at place i, at most `most`; 0 where it is none.
+fn number_in(s: &[u8], i: usize, most: usize) -> usize
     ensures { λ r. ⌜ r ≤ most ⌝ }
 {
-    let f = numbers::read_number(s, 0, s.len());
+    let f = numbers::read_number(s, find_field(s, i), s.len());
     let Field::Number(n, _) = f else {
         return 0;
     };
@@ -122,14 +150,46 @@ fn number_in(s: &[u8], most: usize) -> usize
     most
 }
 
+// A figure of a reading.
+fn figure_in(s: &[u8], i: usize) -> u32 {
+    number_in(s, i, FIGURE_MAX) as u32
+}
+
+// Plans a sheet afresh from the reading in the numbers of a case, with memory as in `print_plan`.
+fn print_afresh(s: &[u8], numbers: &[u8], words: usize, bytes: usize)
+    requires { ⌜ (words ≤ 16384) × (bytes ≤ jobsMax) ⌝ }
+{
+    let mut table: Table = [0; TABLE_SIZE];
+    let mut part: Part = [9; JOBS_MAX];
+    let done = figure_in(numbers, 2);
+    let level = figure_in(numbers, 3);
+    let time = figure_in(numbers, 4);
+    let energy = figure_in(numbers, 5);
+    let temperature = figure_in(numbers, 6);
+    let q = afresh::plan_afresh(
+        s,
+        done,
+        level,
+        time,
+        energy,
+        temperature,
+        &mut table[..words],
+        &mut part[..bytes],
+    );
+    print_answer(q, &table, &part);
+}
+
 // Writes the line of one case.
-fn print_case(note: &[u8], s: &[u8], levels: &[u8], words: &[u8], bytes: &[u8]) {
+fn print_case(note: &[u8], s: &[u8], levels: &[u8], numbers: &[u8]) {
     io::write_all(STDOUT_FILENO, note);
     print_measured(measure::measure(s, levels));
     print_name(s, 0);
     print_name(s, 1);
     print_name(s, JOBS_MAX);
-    print_plan(s, number_in(words, TABLE_SIZE), number_in(bytes, JOBS_MAX));
+    let words = number_in(numbers, 0, TABLE_SIZE);
+    let bytes = number_in(numbers, 1, JOBS_MAX);
+    print_plan(s, words, bytes);
+    print_afresh(s, numbers, words, bytes);
     io::write_all(STDOUT_FILENO, b"\n");
 }
 
@@ -154,22 +214,12 @@ fn run_case(s: &[u8], at: usize) -> usize
     if d == s.len() {
         return d + 1;
     }
-    let e = text::find(s, d + 1, s.len(), 12);
-    if e == s.len() {
-        return e + 1;
-    }
-    print_case(
-        &s[at..a],
-        &s[a + 1..b],
-        &s[b + 1..c],
-        &s[c + 1..d],
-        &s[d + 1..e],
-    );
-    e + 1
+    print_case(&s[at..a], &s[a + 1..b], &s[b + 1..c], &s[c + 1..d]);
+    d + 1
 }
 
 fn main() {
-    let mut input = [0u8; 196608];
+    let mut input = [0u8; 262144];
     let n = io::read_full(0, &mut input);
     let s = &input[..n];
     let mut at: usize = 0;

@@ -21,17 +21,8 @@ slice-aggregate-plan-2 c = rw length-take (omega arith)
 plan-requires : tie.Need-plan-requires
 plan-requires c κs = search needs
 
-print-reply-requires : tie.Need-print-reply-requires
-print-reply-requires c κs = search needs
-
-print-part-requires : tie.Need-print-part-requires
-print-part-requires c κs = search needs
-
-weigh-requires : tie.Need-weigh-requires
-weigh-requires c κs = search needs
-
-print-number-requires : tie.Need-print-number-requires
-print-number-requires c κs = search needs
+print-answer-requires : tie.Need-print-answer-requires
+print-answer-requires c κs = search needs
 
 returns : tie.Need-returns
 returns c = search needs
@@ -45,8 +36,5 @@ print-plan-spec =
     array-borrow-prefix-part
     slice-aggregate-plan-2
     plan-requires
-    print-reply-requires
-    print-part-requires
-    weigh-requires
-    print-number-requires
+    print-answer-requires
     returns)
