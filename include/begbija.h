@@ -8,6 +8,7 @@
  *
  *     begbija_plan_text   plans a sheet and writes the plan as text; the table is inside the call
  *     begbija_plan        plans a sheet with a table that the caller lends: levels, and a reply with their figures
+ *     begbija_plan_afresh plans the jobs still to do, from what is read after a job; the caller lends a table here too
  *     begbija_measure     tells what any list of levels leaves of the three limits
  *     begbija_need        tells how many words of table a sheet needs
  *
@@ -19,8 +20,8 @@
  *
  * What the caller owes, here as for any C function: each pointer is not null, also where the length is 0, and points to that
  * many bytes or words, or to one struct; a table is aligned for uint32_t, a struct for its type; while the call runs, nothing
- * else writes to what is lent, nor reads what the call writes; the memory that is written (text, table, the levels of
- * begbija_plan, reply, margins) overlaps nothing else that is lent.
+ * else writes to what is lent, nor reads what the call writes; the memory that is written (text, table, levels but for those of
+ * begbija_measure, reply, margins) overlaps nothing else that is lent.
  *
  * What the machine code asks. The archive is for x86-64 and no other processor: its toolchain has no other target.
  *
@@ -44,7 +45,7 @@ extern "C" {
 
 /* The version of this interface, as one number to compare with: 1.2.3 would be 10203. */
 #define BEGBIJA_VERSION_MAJOR 1
-#define BEGBIJA_VERSION_MINOR 0
+#define BEGBIJA_VERSION_MINOR 1
 #define BEGBIJA_VERSION_PATCH 0
 #define BEGBIJA_VERSION (BEGBIJA_VERSION_MAJOR * 10000 + BEGBIJA_VERSION_MINOR * 100 + BEGBIJA_VERSION_PATCH)
 
@@ -73,6 +74,7 @@ extern "C" {
  */
 #define BEGBIJA_PLAN_TEXT_STACK 90112 /* 65,536 of them are the table */
 #define BEGBIJA_PLAN_STACK 21504
+#define BEGBIJA_PLAN_AFRESH_STACK 21504
 #define BEGBIJA_MEASURE_STACK 8704
 #define BEGBIJA_NEED_STACK 8704
 
@@ -86,24 +88,31 @@ extern "C" {
 /*
  * The refusals: what is wrong and, in brackets, the line and the field that are told with the number. Lines and fields count from
  * 1, a line's letter being field 1. The first that is met is told: 1; then line by line 2, and in a line field by field 3 and 4;
- * 5 at the end of line 2; then 6; then, in planning, 7 to 10, and in measuring 11 and 12.
+ * 5 at the end of line 2; then 6; then, in planning, 7 to 10, in planning afresh 7, 8, 9, 13, 14, 5 by what is read, and 10, and
+ * in measuring 11 and 12.
  */
 enum begbija_refusal {
     BEGBIJA_SHEET_TOO_LONG = 1,  /* sheet over BEGBIJA_SHEET_MAX bytes (0, 0) */
     BEGBIJA_LINE = 2,            /* line missing, wrong letter or wrong number of fields (line, 0) */
     BEGBIJA_FORM = 3,            /* a number or a job's name is not of the written form (line, field) */
     BEGBIJA_RANGE = 4,           /* a number is out of its range (line, field) */
-    BEGBIJA_HOT_START = 5,       /* start temperature above the temperature limit (2, 8) */
+    BEGBIJA_HOT_START = 5,       /* start temperature (2, 8) or temperature read (0, 0) above the temperature limit */
     BEGBIJA_TRAILING = 6,        /* bytes after the last line (the number of the line after it, 0) */
     BEGBIJA_TABLE_TOO_LARGE = 7, /* the sheet needs more than BEGBIJA_TABLE_MAX words: its steps are too fine (0, 0) */
     BEGBIJA_TABLE_TOO_SHORT = 8, /* the sheet needs more words than the table has (0, 0) */
-    BEGBIJA_PART_TOO_SHORT = 9,  /* levels under one byte for each job, or text under BEGBIJA_TEXT_MIN bytes (0, 0) */
+    BEGBIJA_PART_TOO_SHORT = 9,  /* levels under one byte for each job to do, or text under BEGBIJA_TEXT_MIN bytes (0, 0) */
     BEGBIJA_NO_PLAN = 10,        /* no list of levels, rounded up to the steps, keeps the limits (0, 0) */
     BEGBIJA_LIST_LENGTH = 11,    /* measuring: the list is not as long as there are jobs (0, 0) */
-    BEGBIJA_LIST_LEVEL = 12      /* measuring: a level that the sheet does not have (0, its first place in the list, from 0) */
+    BEGBIJA_LIST_LEVEL = 12,     /* measuring: a level that the sheet does not have (0, its first place in the list, from 0) */
+    BEGBIJA_JOBS_DONE = 13,      /* planning afresh: all jobs of the sheet are done, or more (0, 0) */
+    BEGBIJA_READING = 14         /* planning afresh: level, time, energy or temperature read is out of its range (0, 0) */
 };
 
-/* What begbija_plan answers. Time, energy and final temperature are those of the frame as it will run, without rounding. */
+/*
+ * What begbija_plan and begbija_plan_afresh answer. Time, energy and final temperature are those of the frame as it will run,
+ * without rounding. A frame planned afresh runs from what is read: time and energy count on from there, and the peak is that of
+ * the jobs still to do.
+ */
 struct begbija_reply {
     uint64_t refusal;     /* 0 for a plan, or one of begbija_refusal */
     uint64_t line;        /* line and */
@@ -149,6 +158,29 @@ int64_t begbija_plan_text(const uint8_t *sheet, size_t sheet_len, uint8_t *text,
  */
 int64_t begbija_plan(const uint8_t *sheet, size_t sheet_len, uint32_t *table, size_t table_len, uint8_t *levels,
                      size_t levels_len, struct begbija_reply *reply);
+
+/*
+ * Plans the jobs still to do of a frame, from what is read once `done` jobs are done: the present level (one of the sheet), the
+ * time since the frame's start and the energy spent since then (each at most 2,000,000,000), and the temperature (at most
+ * 20,000). The limits are the sheet's, for the whole frame. Energy and temperature read are rounded up to the steps before the
+ * next job, as between any two jobs. With `done` 0 this plans a frame that starts otherwise than its sheet says.
+ *
+ * Returns 0 for a plan: one level for each job still to do, in order, at the start of `levels`, nothing beyond. Otherwise returns
+ * minus a refusal, 1 to 10, 13 or 14, and leaves `levels` as it was. Every return writes all seven figures of `reply`.
+ *
+ * A plan and BEGBIJA_NO_PLAN fill `table` as begbija_plan does, for all jobs, whatever is done; every other refusal leaves it as
+ * it was. Where the time read is past the deadline or the energy read past the energy budget, the answer is BEGBIJA_NO_PLAN.
+ *
+ * A plan that is kept is not lost: if the jobs done ran at the levels of begbija_plan's plan (`level` is the last one's, or the
+ * start level), time, energy and temperature read are at most those that this plan has there (the last such job's line `Q`, or
+ * the start), and what is lent is long enough, there is a plan, and it ends no later. With a reading one unit above, the answer
+ * may be BEGBIJA_NO_PLAN; of a plan made afresh nothing like it is said. For any reading, with r jobs still to do and the letters
+ * of begbija_need: no list of levels that keeps the deadline, W - r * (g - 1) and C - r * (h - 1) from there on ends sooner than
+ * the plan, and where there is no plan, no list keeps these.
+ */
+int64_t begbija_plan_afresh(const uint8_t *sheet, size_t sheet_len, uint32_t done, uint32_t level, uint32_t time,
+                            uint32_t energy, uint32_t temperature, uint32_t *table, size_t table_len, uint8_t *levels,
+                            size_t levels_len, struct begbija_reply *reply);
 
 /*
  * Runs a list of levels, one for each job, without rounding, and tells what it leaves of the sheet's limits. It has no table: a
