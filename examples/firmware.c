@@ -1,9 +1,13 @@
 /*
- * What a logger's firmware does with a sheet at the start of a frame, with every call of the library. It asks how long a table
+ * What a logger's firmware does with a sheet, with every call of the library. At the start of a frame it asks how long a table
  * the sheet needs, plans with the table of its board, and writes the plan as text where the table inside the call is long enough.
- * At the end it measures what every job at level 0 would leave of the limits; where there is no plan, that may tell which limit
- * is too tight. On a logger the sheet comes over the wire; here it is a file. The README has the command that builds it.
+ * It also measures what every job at level 0 would leave of the limits; where there is no plan, that may tell which limit is too
+ * tight. Then it runs the frame job by job, reads its gauges after each, and plans the jobs still to do afresh. On a logger the
+ * sheet comes over the wire and board.h is the logger itself; here the sheet is a file. The README has the command that builds
+ * it.
  */
+#include "board.h"
+
 #include <begbija.h>
 #include <stdio.h>
 #include <stdlib.h>
@@ -84,6 +88,41 @@ static void measure_lowest(size_t size, size_t jobs)
                (long long)margins.temperature);
 }
 
+/*
+ * Sets the levels of the jobs still to do. Where they have no plan, the next job runs at level 0, at which this board heats and
+ * spends least; the deadline may then be missed. After that job there may be a plan again.
+ */
+static void plan_afresh(size_t size, struct reading now)
+{
+    struct begbija_reply reply;
+    if (begbija_plan_afresh(sheet, size, now.done, now.level, now.time, now.energy, now.temperature, table, TABLE_WORDS, levels,
+                            sizeof levels, &reply) < 0) {
+        printf("afresh refused by %d, line %d, field %d: level 0 next\n", (int)reply.refusal, (int)reply.line, (int)reply.field);
+        levels[0] = 0;
+        return;
+    }
+    printf("afresh time %llu, energy %llu, temperature %llu: level %d next\n", (unsigned long long)reply.time,
+           (unsigned long long)reply.energy, (unsigned long long)reply.temperature, levels[0]);
+}
+
+/* Runs the next job; its level is the first of those that are planned. */
+static struct reading run_next(struct reading now)
+{
+    now = run_job(now, levels[0]);
+    printf("job %u at level %u: time %u, energy %u, temperature %u\n", now.done, now.level, now.time, now.energy,
+           now.temperature);
+    return now;
+}
+
+static void run_frame(size_t size, size_t jobs)
+{
+    struct reading now = run_next(start_board(sheet));
+    while (now.done < jobs) {
+        plan_afresh(size, now);
+        now = run_next(now);
+    }
+}
+
 int main(int argc, char **argv)
 {
     if (argc != 2) {
@@ -95,5 +134,7 @@ int main(int argc, char **argv)
     if (planned)
         keep_text(size);
     measure_lowest(size, jobs);
+    if (planned)
+        run_frame(size, jobs);
     return planned ? 0 : 1;
 }
