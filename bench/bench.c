@@ -50,6 +50,7 @@ static int measure(const char *path)
     compare_all();
     puts("all programs answer alike");
     time_sheets(results);
+    time_afresh(results);
     time_growth(results);
     measure_stack(results);
     return fclose(results) == 0 ? 0 : 1;

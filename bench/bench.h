@@ -20,6 +20,9 @@ extern uint32_t bench_table[TABLE_ROOM];
 
 // Sheets of a need of 16,384 words, and of 4,194,304.
 enum { LOGGER_SHAPES = 3, FULL_SHAPES = 4, SHAPES = LOGGER_SHAPES + FULL_SHAPES };
+
+// The sheet that is planned afresh: 64 jobs.
+enum { AFRESH_SHAPE = LOGGER_SHAPES };
 extern const struct shape bench_shapes[SHAPES];
 
 // A drawn sheet of this shape, with a deadline just above the least time; it has a plan.
@@ -30,8 +33,8 @@ void compare_all(void);
 void compare_sheet(const struct sheet *sheet);
 
 // The whole call with a lent table; the same with a table one word short of the need, which is refused right after the sheet
-// is read; and the logger's call.
-enum call { WHOLE, READER, TEXT, CALLS };
+// is read; the logger's call; and planning afresh after half of the jobs.
+enum call { WHOLE, READER, TEXT, AFRESH, CALLS };
 extern const char *const call_names[CALLS];
 
 void make_call(const struct program *program, enum call call, const struct sheet *sheet);
@@ -44,6 +47,7 @@ void write_result(FILE *results, const char *table, const struct sheet *sheet, c
                   const char *figure, double value);
 
 void time_sheets(FILE *results);
+void time_afresh(FILE *results);
 void time_growth(FILE *results);
 void measure_stack(FILE *results);
 

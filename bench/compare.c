@@ -27,13 +27,19 @@ static void differ(const struct sheet *sheet, const struct program *program, con
     exit(1);
 }
 
-// The call with so many words lent; the guard is beyond the need, or beyond what is lent.
-static struct answer plan(const struct program *program, const struct sheet *sheet, uint32_t *table, size_t words)
+// The call with so many words lent, from a reading where there is one; the guard is beyond the need, or beyond what is lent.
+static struct answer plan(const struct program *program, const struct sheet *sheet, const struct reading *from, uint32_t *table,
+                          size_t words)
 {
     struct answer answer;
     memset(&answer, FILL, sizeof answer);
     memset(table, FILL, (sheet->need + GUARD) * sizeof *table);
-    answer.number = program->plan(sheet->bytes, sheet->length, table, words, answer.levels, sheet->shape.jobs, &answer.reply);
+    if (from == NULL)
+        answer.number =
+            program->plan(sheet->bytes, sheet->length, table, words, answer.levels, sheet->shape.jobs, &answer.reply);
+    else
+        answer.number = program->afresh(sheet->bytes, sheet->length, from->done, from->level, from->time, from->energy,
+                                        from->temperature, table, words, answer.levels, sheet->shape.jobs, &answer.reply);
     return answer;
 }
 
@@ -65,11 +71,11 @@ static void compare_answers(const struct sheet *sheet, const struct program *pro
         differ(sheet, program, "the text");
 }
 
-static int64_t compare_plan(const struct sheet *sheet, size_t words)
+static int64_t compare_plan(const struct sheet *sheet, const struct reading *from, size_t words)
 {
-    struct answer first = plan(&programs[0], sheet, tables[0], words);
+    struct answer first = plan(&programs[0], sheet, from, tables[0], words);
     for (size_t i = 1; i < PROGRAMS; i++) {
-        struct answer other = plan(&programs[i], sheet, tables[1], words);
+        struct answer other = plan(&programs[i], sheet, from, tables[1], words);
         compare_answers(sheet, &programs[i], &first, &other);
         if (memcmp(tables[0], tables[1], (sheet->need + GUARD) * sizeof(uint32_t)) != 0)
             differ(sheet, &programs[i], "the table");
@@ -89,9 +95,10 @@ static int64_t compare_text(const struct sheet *sheet)
 
 void compare_sheet(const struct sheet *sheet)
 {
-    compare_plan(sheet, sheet->need);
+    compare_plan(sheet, NULL, sheet->need);
+    compare_plan(sheet, &sheet->half, sheet->need);
     compare_text(sheet);
-    if (compare_plan(sheet, sheet->need - 1) != -8) {
+    if (compare_plan(sheet, NULL, sheet->need - 1) != -8 || compare_plan(sheet, &sheet->half, sheet->need - 1) != -8) {
         fprintf(stderr, "bench: a sheet of %zu words is not refused for a table of one word less\n", sheet->need);
         exit(1);
     }
@@ -100,7 +107,7 @@ void compare_sheet(const struct sheet *sheet)
 void make_sheet(struct sheet *sheet, struct shape shape)
 {
     draw_sheet(sheet, shape, 2000000000);
-    struct answer answer = plan(&programs[HOISTED], sheet, tables[0], sheet->need);
+    struct answer answer = plan(&programs[HOISTED], sheet, NULL, tables[0], sheet->need);
     uint32_t least = (uint32_t)answer.reply.time;
     if (answer.number != 0) {
         fprintf(stderr, "bench: a drawn sheet of %zu words has no plan\n", sheet->need);
@@ -109,7 +116,7 @@ void make_sheet(struct sheet *sheet, struct shape shape)
     draw_sheet(sheet, shape, least + least / 64);
 }
 
-// Tables of all kinds of small shapes, with a plan or without.
+// Tables of all kinds of small shapes, with a plan or without, and readings within the limits and beyond.
 static void compare_drawn(void)
 {
     static struct sheet sheet;
@@ -117,6 +124,14 @@ static void compare_drawn(void)
         struct shape shape = {1 + i % 11, 1 + i % 8, 2 + i * 7 % 61, 2 + i * 5 % 47};
         draw_sheet(&sheet, shape, 2000000000);
         compare_sheet(&sheet);
+        struct reading from = {
+            .done = i / 2 % (shape.jobs + 1),
+            .level = i / 3 % (shape.levels + 1),
+            .time = sheet.half.time * (i / 5 % 6),
+            .energy = sheet.half.energy * (i / 7 % 4),
+            .temperature = sheet.half.temperature * (i / 11 % 4),
+        };
+        compare_plan(&sheet, &from, sheet.need);
     }
 }
 

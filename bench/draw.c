@@ -55,6 +55,7 @@ static void add_head(struct sheet *sheet, uint32_t deadline, struct axis energy,
         shape->jobs, shape->levels, shape->levels / 3, deadline, energy.limit, temperature.limit, temperature.limit / 5,
         RESISTANCE, energy.step, temperature.step,
     };
+    sheet->half = (struct reading){shape->jobs / 2, shape->levels / 3, deadline / 4, energy.limit / 2, temperature.limit / 2};
     add_line(sheet, 'V', (uint32_t[]){1}, 1);
     add_line(sheet, 'H', head, 10);
 }

@@ -12,9 +12,15 @@ struct shape {
     uint32_t jobs, levels, energy_cells, temperature_cells;
 };
 
+// What is read after some jobs.
+struct reading {
+    uint32_t done, level, time, energy, temperature;
+};
+
 struct sheet {
     struct shape shape;
-    size_t need; // words
+    struct reading half; // after half of the jobs, with half of the energy and a quarter of the time spent
+    size_t need;         // words
     size_t length;
     uint8_t bytes[SHEET_ROOM];
 };

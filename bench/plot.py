@@ -77,6 +77,7 @@ def times_table(rows):
     return compared_table("nanoseconds per", [
         ("word, whole call", by_shape(rows, sheets, "whole"), "words"),
         ("word, fill and walk", by_shape(rows, sheets, "fill"), "words"),
+        ("word, planning afresh", by_shape(rows, ("full",), "afresh"), "words"),
         ("word, logger's call", by_shape(rows, ("logger",), "text"), "words"),
         ("byte, reader", by_shape(rows, (*sheets, "longest"), "reader"), "bytes"),
     ])
@@ -85,6 +86,7 @@ def times_table(rows):
 def instructions_table(rows):
     return compared_table("instructions per", [
         ("word, whole call", by_shape(rows, ("instructions",), "whole"), "words"),
+        ("word, planning afresh", by_shape(rows, ("instructions",), "afresh"), "words"),
         ("word, logger's call", by_shape(rows, ("instructions",), "text"), "words"),
         ("byte, reader", by_shape(rows, ("instructions",), "reader"), "bytes"),
     ])
@@ -100,7 +102,7 @@ def memory_table(rows):
     lines = [
         ["stack, call with a lent table", "", *(f"{stack[program, 'plan']:,.0f}" for program in PROGRAMS)],
         *([f"stack, {call}", "", f"{stack['begbija', figure]:,.0f}", *[""] * (len(PROGRAMS) - 1)]
-          for call, figure in (("measuring call", "measure"), ("call for the need", "need"))),
+          for call, figure in (("planning afresh", "afresh"), ("measuring call", "measure"), ("call for the need", "need"))),
         ["stack, logger's call, less its table", f"{STACK_TARGET:,}",
          *(f"{stack[program, 'text'] - TABLE_BYTES:,.0f}" for program in PROGRAMS)],
         ["code", f"{SIZE_TARGET:,}", *(f"{size[program]:,.0f}" for program in PROGRAMS)],

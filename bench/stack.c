@@ -1,10 +1,10 @@
-// How much stack the calls take: the library's four, and the two of each C planner.
+// How much stack the calls take: all of the library's, and two of each C planner.
 #include "../tests/outside/painted.h"
 #include "bench.h"
 
-static const char *const figures[LIBRARY_CALLS] = {"text", "plan", "measure", "need"};
+static const char *const figures[LIBRARY_CALLS] = {"text", "plan", "measure", "need", "afresh"};
 
-// The most of each call; a C planner has the first two.
+// The most of each call; of a C planner, of the first two.
 typedef size_t most_of[PROGRAMS][LIBRARY_CALLS];
 
 // What is run on the painted stack, which hands over no pointers.
@@ -43,7 +43,7 @@ static int64_t write_nothing(const uint8_t *sheet, size_t sheet_len, uint8_t *te
 // The stack of a call on the current sheet.
 static size_t stack_of(size_t program, enum library_call call)
 {
-    static const struct program nothing = {"nothing", plan_nothing, write_nothing};
+    static const struct program nothing = {"nothing", plan_nothing, write_nothing, NULL};
     void (*run)(void) = call == LIBRARY_PLAN_TEXT ? run_text : run_plan;
     if (program == LIBRARY)
         return library_stack(call, current->bytes, current->length, current->shape.jobs);

@@ -13,7 +13,7 @@ enum {
     GROWTH_WORDS = 1000000    // for growth with the number of levels
 };
 
-const char *const call_names[CALLS] = {"whole", "reader", "text"};
+const char *const call_names[CALLS] = {"whole", "reader", "text", "afresh"};
 
 struct samples {
     size_t calls; // in one sample, so that it is long enough to be timed
@@ -33,8 +33,12 @@ static double now(void)
 
 void make_call(const struct program *program, enum call call, const struct sheet *sheet)
 {
+    const struct reading *half = &sheet->half;
     if (call == TEXT)
         program->text(sheet->bytes, sheet->length, text, TEXT_BYTES);
+    else if (call == AFRESH)
+        program->afresh(sheet->bytes, sheet->length, half->done, half->level, half->time, half->energy, half->temperature,
+                        bench_table, sheet->need, levels, sizeof levels, &reply);
     else
         program->plan(sheet->bytes, sheet->length, bench_table, sheet->need - (call == READER), levels, sizeof levels, &reply);
 }
@@ -81,19 +85,25 @@ static void write_times(FILE *results, const char *table, const struct sheet *sh
     }
 }
 
-static void time_sheet(FILE *results, const char *table, const struct sheet *sheet)
+// Samples of the calls from `first` to before `end`; returns the number of rounds.
+static size_t take_samples(struct samples samples[PROGRAMS][CALLS], const struct sheet *sheet, enum call first, enum call end)
 {
-    static struct samples samples[PROGRAMS][CALLS];
     const size_t rounds = sheet->need > SMALL_NEED ? ROUNDS_LARGE : ROUNDS_MAX;
-    const size_t calls = sheet->need > INSIDE ? TEXT : CALLS;
     for (size_t p = 0; p < PROGRAMS; p++)
-        for (size_t call = 0; call < calls; call++)
+        for (enum call call = first; call < end; call++)
             samples[p][call].calls = calls_in_sample(&programs[p], call, sheet);
     for (size_t i = 0; i < rounds; i++)
         for (size_t p = 0; p < PROGRAMS; p++)
-            for (size_t call = 0; call < calls; call++)
+            for (enum call call = first; call < end; call++)
                 samples[p][call].nanoseconds[i] = sample(&programs[p], call, sheet, samples[p][call].calls);
-    write_times(results, table, sheet, samples, calls, rounds);
+    return rounds;
+}
+
+static void time_sheet(FILE *results, const char *table, const struct sheet *sheet)
+{
+    static struct samples samples[PROGRAMS][CALLS];
+    const enum call end = sheet->need > INSIDE ? TEXT : TEXT + 1;
+    write_times(results, table, sheet, samples, end, take_samples(samples, sheet, WHOLE, end));
 }
 
 static void time_shape(FILE *results, const char *table, struct shape shape)
@@ -111,6 +121,22 @@ void time_sheets(FILE *results)
         time_shape(results, i < LOGGER_SHAPES ? "logger" : "full", bench_shapes[i]);
     longest_sheet(&longest);
     time_sheet(results, "longest", &longest);
+}
+
+// Planning afresh fills the whole table, as a plan from the start does, so that one sheet is enough.
+void time_afresh(FILE *results)
+{
+    static struct sheet sheet;
+    static struct samples samples[PROGRAMS][CALLS];
+    make_sheet(&sheet, bench_shapes[AFRESH_SHAPE]);
+    const size_t rounds = take_samples(samples, &sheet, AFRESH, CALLS);
+    if (reply.refusal != 0) {
+        fprintf(stderr, "bench: the sheet that is planned afresh has no plan\n");
+        exit(1);
+    }
+    for (size_t p = 0; p < PROGRAMS; p++)
+        write_result(results, "full", &sheet, &programs[p], call_names[AFRESH],
+                     median(samples[p][AFRESH].nanoseconds, rounds));
 }
 
 // The greatest square table of so many words.
