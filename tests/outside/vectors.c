@@ -61,7 +61,7 @@ static void check_lent_table(const char *top, const char *name)
 
 void test_examples(const char *top)
 {
-    check_stored_sheets(top, "examples/*.sheet", 3);
+    check_stored_sheets(top, "examples/*.sheet", 4);
     check_stored_sheets(top, "examples/refused/*.sheet", 9);
     check_lent_table(top, "examples/long_frame.sheet");
 }
