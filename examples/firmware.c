@@ -3,11 +3,9 @@
  * the sheet needs, plans with the table of its board, and writes the plan as text where the table inside the call is long enough.
  * It also measures what every job at level 0 would leave of the limits; where there is no plan, that may tell which limit is too
  * tight. Then it runs the frame job by job, reads its gauges after each, and plans the jobs still to do afresh. On a logger the
- * sheet comes over the wire and board.h is the logger itself; here the sheet is a file. The README has the command that builds
- * it.
+ * sheet comes over the wire and the gauges are read; here both are files, and the jobs are not run. The README has the command
+ * that builds it.
  */
-#include "board.h"
-
 #include <begbija.h>
 #include <stdio.h>
 #include <stdlib.h>
@@ -20,14 +18,25 @@ static uint32_t table[TABLE_WORDS];
 static uint8_t levels[BEGBIJA_JOBS_MAX];
 static uint8_t text[BEGBIJA_TEXT_MIN];
 
-/* A longer sheet is cut one byte beyond the longest that is taken, which is enough for the planner to refuse it. */
-static size_t read_sheet(const char *path)
+/* Where a frame stands: jobs done, the level of the last one, and what the gauges show. */
+struct reading {
+    uint32_t done, level, time, energy, temperature;
+};
+
+static FILE *open_file(const char *path)
 {
     FILE *file = fopen(path, "rb");
     if (file == NULL) {
         perror(path);
         exit(2);
     }
+    return file;
+}
+
+/* A longer sheet is cut one byte beyond the longest that is taken, which is enough for the planner to refuse it. */
+static size_t read_sheet(const char *path)
+{
+    FILE *file = open_file(path);
     size_t size = fread(sheet, 1, sizeof sheet, file);
     fclose(file);
     return size;
@@ -105,28 +114,31 @@ static void plan_afresh(size_t size, struct reading now)
            (unsigned long long)reply.energy, (unsigned long long)reply.temperature, levels[0]);
 }
 
-/* Runs the next job; its level is the first of those that are planned. */
-static struct reading run_next(struct reading now)
+/* Runs the next job, at the first of the levels that are planned, and reads the gauges: a line of the file for each job. */
+static int run_next(FILE *gauges, struct reading *now)
 {
-    now = run_job(now, levels[0]);
-    printf("job %u at level %u: time %u, energy %u, temperature %u\n", now.done, now.level, now.time, now.energy,
-           now.temperature);
-    return now;
+    now->done++;
+    now->level = levels[0];
+    if (fscanf(gauges, "%u %u %u", &now->time, &now->energy, &now->temperature) != 3)
+        return 0;
+    printf("job %u at level %u: time %u, energy %u, temperature %u\n", now->done, now->level, now->time, now->energy,
+           now->temperature);
+    return 1;
 }
 
-static void run_frame(size_t size, size_t jobs)
+static void run_frame(const char *path, size_t size, size_t jobs)
 {
-    struct reading now = run_next(start_board(sheet));
-    while (now.done < jobs) {
+    FILE *gauges = open_file(path);
+    struct reading now = {0, 0, 0, 0, 0};
+    while (run_next(gauges, &now) && now.done < jobs)
         plan_afresh(size, now);
-        now = run_next(now);
-    }
+    fclose(gauges);
 }
 
 int main(int argc, char **argv)
 {
-    if (argc != 2) {
-        fprintf(stderr, "usage: firmware SHEET\n");
+    if (argc != 2 && argc != 3) {
+        fprintf(stderr, "usage: firmware SHEET [READINGS]\n");
         return 2;
     }
     size_t size = read_sheet(argv[1]), jobs = count_jobs(size);
@@ -134,7 +146,7 @@ int main(int argc, char **argv)
     if (planned)
         keep_text(size);
     measure_lowest(size, jobs);
-    if (planned)
-        run_frame(size, jobs);
+    if (planned && argc == 3)
+        run_frame(argv[2], size, jobs);
     return planned ? 0 : 1;
 }
