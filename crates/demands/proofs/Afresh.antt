@@ -20,9 +20,9 @@ use Rattle.checks.proofs.Checks.{fault-cases}
 use Rattle.reply.specs.declared.Reply.{Reply}
 use Rattle.reply.specs.Answer.{Answer, foundFrom, refusedReply, Answers}
 use Rattle.demands.specs.Order.{unless, afreshFor, afreshTo, afreshOf}
-use Rattle.demands.specs.Demands.{Enough, Lent, Demand3}
+use Rattle.demands.specs.Demands.{Enough, Memory, Demand3}
 use Rattle.demands.specs.Afresh.{Readable, Passed, LeftDemands, AfreshDemands}
-use Rattle.demands.proofs.Demands.{unlooked, on-found, Lacks, lent-enough, lack-split, by-reading}
+use Rattle.demands.proofs.Demands.{unlooked, on-found, Lacks, memory-enough, lack-split, by-reading}
 
 -- ---- what is read
 
@@ -117,7 +117,7 @@ module _ (s : Sheet) (ok : Ranges s) (a : State) (new : a.peak ≡ 0) (n : ℕ) 
   on-lack l =
       let f : answered = unlooked (λ w. l .short (w .0)) (l .zeros) (λ q. omega (arith, l .low)) (λ q. omega (arith, l .high)) in
       record {
-        lent = l .lent;
+        memory = l .memory;
         thirteen = ((λ q. absurd (omega (arith, l .high))), (λ q. absurd (l .short (q .0))));
         fourteen = ((λ q. absurd (omega (arith, l .high))), (λ q. absurd (l .short (q .0))));
         five = ((λ q. absurd (omega (arith, l .low))), (λ q. absurd (l .short (q .0))));
@@ -131,7 +131,7 @@ module _ (s : Sheet) (ok : Ranges s) (a : State) (new : a.peak ≡ 0) (n : ℕ) 
     on-fault l =
         let f : answered = unlooked (λ p. l .unread (p .1)) (l .zeros) (l .no-other 0 (λ q. omega arith) (omega arith)) (l .no-other 10 (λ q. omega arith) (omega arith)) in
         record {
-          lent = lent-enough w (λ x u v. l .no-other x (λ q. omega arith) (omega arith));
+          memory = memory-enough w (λ x u v. l .no-other x (λ q. omega arith) (omega arith));
           thirteen = ((λ q. (w, l .thirteen .0 q)), (λ q. l .thirteen .1 (q .1)));
           fourteen = ((λ q. let h = l .fourteen .0 q in (w, h .0, h .1)), (λ q. l .fourteen .1 (q .1, q .2)));
           five = ((λ q. let h = l .five .0 q in (w, h .0, h .1, h .2)), (λ q. l .five .1 (q .1, q .2, q .3)));
@@ -149,7 +149,7 @@ module _ (s : Sheet) (ok : Ranges s) (a : State) (new : a.peak ≡ 0) (n : ℕ) 
         on-found s (tightenedLeft s (jobsLeft s a)) (jobsLeft s a) a (outcome s (jobsLeft s a) a) both
         (left-demand2 s ok (jobsLeft s a) some a cool) (left-demand3 s ok (jobsLeft s a) some a cool) h in
         record {
-          lent = lent-enough w (λ x u v. f .1 x (λ q. omega arith) (λ q. omega arith));
+          memory = memory-enough w (λ x u v. f .1 x (λ q. omega arith) (λ q. omega arith));
           thirteen = ((λ q. absurd (f .1 13 (λ e. omega arith) (λ e. omega arith) q)), (λ q. absurd (omega (arith, t .done, q .1))));
           fourteen = ((λ q. absurd (f .1 14 (λ e. omega arith) (λ e. omega arith) q)), (λ q. absurd (q .2 (t .range))));
           five = ((λ q. absurd (f .1 5 (λ e. omega arith) (λ e. omega arith) q)), (λ q. absurd (omega (arith, t .temperature, q .3))));

@@ -27,7 +27,7 @@ use Rattle.reply.specs.declared.Reply.{Reply}
 use Rattle.reply.specs.Answer.{Answer, refused, found, refusedReply, plannedAs, Answers}
 use Rattle.reply.proofs.Peak.{peak-between}
 use Rattle.demands.specs.Order.{frameFound, unless, answerFor, turnedAway, answerBy, answerTo, answerOf}
-use Rattle.demands.specs.Demands.{Enough, Lent, Fixed, Demand3, FrameDemands, Demands}
+use Rattle.demands.specs.Demands.{Enough, Memory, Fixed, Demand3, FrameDemands, Demands}
 
 module _ {s : Sheet} {k : Limits} {n : ℕ} {a : State} {passed : Type 0} {part : List ℕ} {r : Reply} where
   -- ---- refused before looking: nothing is said of a plan
@@ -113,7 +113,7 @@ on-found s k n a noPlan w b d h = (on-none w b d (h .reply), λ x u v q. v (sym 
 
 -- Something is lacking.
 pub record Lacks (s : Sheet) (n words bytes : ℕ) (r : Reply) : Type 0 where
-  pub lent : Lent s n words bytes r
+  pub memory : Memory s n words bytes r
   pub short : ¬ Enough s n words bytes
   pub low : 7 ≤ r .refusal
   pub high : r .refusal ≤ 9
@@ -121,8 +121,8 @@ pub record Lacks (s : Sheet) (n words bytes : ℕ) (r : Reply) : Type 0 where
 
 module _ {s : Sheet} {n words bytes : ℕ} {r : Reply} where
   -- Nothing is lacking, and the answer is another.
-  pub lent-enough : Enough s n words bytes → ((x : ℕ) → 7 ≤ x → x ≤ 9 → ¬ (r .refusal ≡ x)) → Lent s n words bytes r
-  lent-enough w u =
+  pub memory-enough : Enough s n words bytes → ((x : ℕ) → 7 ≤ x → x ≤ 9 → ¬ (r .refusal ≡ x)) → Memory s n words bytes r
+  memory-enough w u =
       record {
         seven = ((λ q. absurd (u 7 (omega arith) (omega arith) q)), (λ q. absurd (omega (arith, w .size))));
         eight = ((λ q. absurd (u 8 (omega arith) (omega arith) q)), (λ q. absurd (omega (arith, w .table, q .1))));
@@ -133,7 +133,7 @@ module _ {s : Sheet} {n words bytes : ℕ} {r : Reply} where
   on-seven h z =
       let e = ap (λ (q : Reply). q .refusal) z in
       record {
-        lent =
+        memory =
             record {
               seven = ((λ q. h), (λ q. e));
               eight = ((λ q. absurd (omega arith)), (λ q. absurd (omega (arith, q .0))));
@@ -149,7 +149,7 @@ module _ {s : Sheet} {n words bytes : ℕ} {r : Reply} where
   on-eight g h z =
       let e = ap (λ (q : Reply). q .refusal) z in
       record {
-        lent =
+        memory =
             record {
               seven = ((λ q. absurd (omega arith)), (λ q. absurd (omega arith)));
               eight = ((λ q. (g, h)), (λ q. e));
@@ -165,7 +165,7 @@ module _ {s : Sheet} {n words bytes : ℕ} {r : Reply} where
   on-nine f g h z =
       let e = ap (λ (q : Reply). q .refusal) z in
       record {
-        lent =
+        memory =
             record {
               seven = ((λ q. absurd (omega arith)), (λ q. absurd (omega arith)));
               eight = ((λ q. absurd (omega arith)), (λ q. absurd (omega (arith, q .1))));
@@ -196,10 +196,10 @@ on-frame : (s : Sheet) → Ranges s → (n : ℕ) (words words' bytes bytes' : L
 unfolding answerFor
 on-frame s ok n words words' bytes bytes' r a =
     ⊎-elim
-    (λ l. record { lent = l .lent; found = unlooked (l .short) (l .zeros) (λ q. omega (arith, l .low)) (λ q. omega (arith, l .high)) })
+    (λ l. record { memory = l .memory; found = unlooked (l .short) (l .zeros) (λ q. omega (arith, l .low)) (λ q. omega (arith, l .high)) })
     (λ w.
     let f = on-found s (tightened s) s.jobs (start s) (frameOutcome s) (w .0) (frame-demand2 s ok) (frame-demand3 s ok) (w .1) in
-    record { lent = lent-enough (w .0) (λ x l h. f .1 x (λ q. omega arith) (λ q. omega arith)); found = f .0 })
+    record { memory = memory-enough (w .0) (λ x l h. f .1 x (λ q. omega arith) (λ q. omega arith)); found = f .0 })
     (lack-split (frameFound s) a)
 
 -- ---- every sheet

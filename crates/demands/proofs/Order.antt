@@ -66,15 +66,15 @@ module _ (words bytes : List ℕ) (r : SheetRead) (a : State) (q : Reply) where
       answers-lack h z = rw (passed (unless lack (unless (faultOf s a) (foundFrom s a))) (rw (← l) refl)) (unless-refuses lack _ h z)
 
       module _ (u : lack ≡ 0) (fault : ℕ) (f : fault ≡ faultOf s a) where
-        lent : (x : Answer) → unless (faultOf s a) (foundFrom s a) ≡ x → afreshFor s a (length words) (length bytes) ≡ x
+        enough : (x : Answer) → unless (faultOf s a) (foundFrom s a) ≡ x → afreshFor s a (length words) (length bytes) ≡ x
         unfolding afreshFor
-        lent x p = rw (← l, u) p
+        enough x p = rw (← l, u) p
 
         pub answers-fault : ¬ (fault ≡ 0) → q ≡ refusedReply fault 0 0 → given words bytes
-        answers-fault h z = rw (passed (unless fault (foundFrom s a)) (lent _ (rw (← f) refl))) (unless-refuses fault _ h z)
+        answers-fault h z = rw (passed (unless fault (foundFrom s a)) (enough _ (rw (← f) refl))) (unless-refuses fault _ h z)
 
         pub answers-found : (words' bytes' : List ℕ) → fault ≡ 0 → Answers (foundFrom s a) words words' bytes bytes' q → given words' bytes'
-        answers-found words' bytes' h z = rw (passed (foundFrom s a) (lent _ (rw (← f, h) refl))) z
+        answers-found words' bytes' h z = rw (passed (foundFrom s a) (enough _ (rw (← f, h) refl))) z
 
 -- ---- the sheet's own frame is the one planned afresh from its start
 

@@ -13,7 +13,7 @@ use Rattle.refusal.specs.Code.{numberOf, lineOf, fieldOf}
 use Rattle.sheet.specs.Reading.{readingOf, sheetIn}
 use Rattle.reply.specs.declared.Reply.{Reply}
 use Rattle.reply.specs.Answer.{refusedReply}
-use Rattle.demands.specs.Demands.{Enough, Lent, Demand3}
+use Rattle.demands.specs.Demands.{Enough, Memory, Demand3}
 
 -- Neither 13, 14 nor the reading's 5 applies.
 pub record Readable (s : Sheet) (a : State) : Type 0 where
@@ -27,7 +27,7 @@ Passed s a words bytes = Enough s (jobsLeft s a) words bytes × Readable s a
 
 -- The demands on what is answered from a reading a, on a sheet that passes 1 to 6.
 pub record LeftDemands (s : Sheet) (a : State) (words bytes : ℕ) (part : List ℕ) (r : Reply) : Type 0 where
-  pub lent : Lent s (jobsLeft s a) words bytes r
+  pub memory : Memory s (jobsLeft s a) words bytes r
   -- "13 where jobs done is m or more"
   pub thirteen : (r .refusal ≡ 13) ↔ (Enough s (jobsLeft s a) words bytes × (s.jobs ≤ a.done))
   -- "14 where the level is l or more, time or energy is above 2,000,000,000, or temperature is above 20,000"

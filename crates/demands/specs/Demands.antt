@@ -24,7 +24,7 @@ pub record Enough (s : Sheet) (n words bytes : ℕ) : Type 0 where
   pub part : n ≤ bytes
 
 -- Demand 1 on 7, 8 and 9, on a sheet that passes 1 to 6: each "given under that refusal's condition and no other".
-pub record Lent (s : Sheet) (n words bytes : ℕ) (r : Reply) : Type 0 where
+pub record Memory (s : Sheet) (n words bytes : ℕ) (r : Reply) : Type 0 where
   pub seven : (r .refusal ≡ 7) ↔ (wordsMax < need s)
   pub eight : (r .refusal ≡ 8) ↔ ((need s ≤ wordsMax) × (words < need s))
   pub nine : (r .refusal ≡ 9) ↔ ((need s ≤ wordsMax) × (need s ≤ words) × (bytes < n))
@@ -67,7 +67,7 @@ pub record Demand3 (s : Sheet) (k : Limits) (n : ℕ) (a : State) (passed : Type
 -- The demands on the sheet's own frame: "For every sheet that passes checks 1 to 6 of document 01, .. and whatever table and part
 -- are lent". The tightened limits are "the deadline, the ration less (m − 1) × (g − 1) and the ceiling less m × (h − 1)".
 pub record FrameDemands (s : Sheet) (words bytes : ℕ) (part : List ℕ) (r : Reply) : Type 0 where
-  pub lent : Lent s s.jobs words bytes r
+  pub memory : Memory s s.jobs words bytes r
   pub found : Demand3 s (tightened s) s.jobs (start s) (Enough s s.jobs words bytes) part r
 
 -- For every sequence of bytes offered as a sheet.
