@@ -210,6 +210,10 @@ cases T s =
     ∷ refusesFrom (sheet 49 100 2500 10 100) (reading 1 1 21 48 2500) 10
     ∷ plansFrom (sheet 50 76 2500 1 100) (reading 1 1 20 48 2500) (0 ∷ []) 49 76 2250
     ∷ refusesFrom (sheet 50 76 2500 1 100) (reading 1 1 20 49 2500) 10
+    -- and of temperature, after log at level 0: 1,501 is raised to 1,600, and send at 1 then ends at 2,800
+    ∷ plans (sheet 47 63 2750 10 100) (0 ∷ 1 ∷ []) 47 63 2750
+    ∷ plansFrom (sheet 47 63 2750 10 100) (reading 1 0 30 20 1500) (1 ∷ []) 47 63 2750
+    ∷ refusesFrom (sheet 47 63 2750 10 100) (reading 1 0 30 20 1501) 10
     -- the energy read is raised: 51 + 28 is 79, but 60 + 28 is 88
     ∷ refusesFrom (sheet 50 87 2500 10 100) (reading 1 1 20 51 2500) 10
     ∷ plansFrom (sheet 50 88 2500 10 100) (reading 1 1 20 51 2500) (0 ∷ []) 49 79 2250
