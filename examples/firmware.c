@@ -98,8 +98,9 @@ static void measure_lowest(size_t size, size_t jobs)
 }
 
 /*
- * Sets the levels of the jobs still to do. Where they have no plan, the next job runs at level 0, at which this board heats and
- * spends least; the deadline may then be missed. After that job there may be a plan again.
+ * Sets the levels of the jobs still to do. Where the call refuses (no plan, or a reading too hot or out of range), it leaves
+ * `levels`, whose first is that of the job just done. The next job then runs at level 0, at which this board heats and spends least;
+ * the deadline may be missed. After that job there may be a plan again.
  */
 static void plan_afresh(size_t size, struct reading now)
 {

@@ -15,7 +15,7 @@
  * Units: times in microseconds, energies in microjoules, temperatures in hundredths of a kelvin above the rock at the logger.
  * Lengths count elements: bytes of a sheet, a text or a list of levels, words of a table.
  *
- * Every call takes any bytes as a sheet and memory of any length, and always returns. The calls keep no state, allocate nothing,
+ * Every call takes any bytes as a sheet, any figures as readings and memory of any length, and always returns. The calls keep no state, allocate nothing,
  * and call nothing but memcpy and memset. They may run at once, on any number of threads, also on one sheet.
  *
  * What the caller owes, here as for any C function: each pointer is not null, also where the length is 0, and points to that
@@ -163,20 +163,23 @@ int64_t begbija_plan(const uint8_t *sheet, size_t sheet_len, uint32_t *table, si
  * Plans the jobs still to do of a frame, from what is read once `done` jobs are done: the present level (one of the sheet), the
  * time since the frame's start and the energy spent since then (each at most 2,000,000,000), and the temperature (at most
  * 20,000). The limits are the sheet's, for the whole frame. Energy and temperature read are rounded up to the steps before the
- * next job, as between any two jobs. With `done` 0 this plans a frame that starts otherwise than its sheet says.
+ * next job, as between any two jobs. With `done` 0 this plans a frame that starts otherwise than its sheet says. The planner takes
+ * the figures as they are: round what the gauges show up to whole units, give 0 for a temperature below the rock, and for `time`
+ * the moment at which the next job will start, as this call takes as long as begbija_plan.
  *
- * Returns 0 for a plan: one level for each job still to do, in order, at the start of `levels`, nothing beyond. Otherwise returns
- * minus a refusal, 1 to 10, 13 or 14, and leaves `levels` as it was. Every return writes all seven figures of `reply`.
+ * Returns 0 for a plan: one level for each job still to do, in order, at the start of `levels`, nothing beyond; levels[0] is that
+ * of the next job. Otherwise returns minus a refusal, 1 to 10, 13 or 14, and leaves `levels` as it was. Every return writes all
+ * seven figures of `reply`. What table and levels hold before does not matter.
  *
  * A plan and BEGBIJA_NO_PLAN fill `table` as begbija_plan does, for all jobs, whatever is done; every other refusal leaves it as
  * it was. Where the time read is past the deadline or the energy read past the energy budget, the answer is BEGBIJA_NO_PLAN.
  *
- * A plan that is kept is not lost: if the jobs done ran at the levels of begbija_plan's plan (`level` is the last one's, or the
- * start level), time, energy and temperature read are at most those that this plan has there (the last such job's line `Q`, or
- * the start), and what is lent is long enough, there is a plan, and it ends no later. With a reading one unit above, the answer
- * may be BEGBIJA_NO_PLAN; of a plan made afresh nothing like it is said. For any reading, with r jobs still to do and the letters
- * of begbija_need: no list of levels that keeps the deadline, W - r * (g - 1) and C - r * (h - 1) from there on ends sooner than
- * the plan, and where there is no plan, no list keeps these.
+ * A plan that is kept is not lost. If the jobs done since begbija_plan or an earlier call of this kind ran at the levels of its
+ * plan (`level` is the last one's, or as before where no job was done since), time, energy and temperature read are at most those
+ * that this plan has there, run without rounding, and what is lent is long enough, then there is a plan, and it ends no later.
+ * With a reading one unit above, the answer may be BEGBIJA_NO_PLAN. For any reading, with r jobs still to do and the letters of
+ * begbija_need: no list of levels that keeps the deadline, W - r * (g - 1) and C - r * (h - 1) from there on ends sooner than the
+ * plan, and where there is no plan, no list keeps these (a figure below 0 is kept by none).
  */
 int64_t begbija_plan_afresh(const uint8_t *sheet, size_t sheet_len, uint32_t done, uint32_t level, uint32_t time,
                             uint32_t energy, uint32_t temperature, uint32_t *table, size_t table_len, uint8_t *levels,

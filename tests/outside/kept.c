@@ -1,7 +1,8 @@
-// Kept plans: where a sheet's own plan was kept so far and no reading is above its run without steps, a plan is found that ends
-// no later. Tried at every job of drawn sheets; a reading one unit above may find none.
+// Kept plans: where a plan was kept so far and no reading is above its run without steps, a plan is found that ends no later. Tried
+// at every job of drawn sheets, of the sheet's own plan and of plans made afresh; a reading one unit above may find none.
 #include "calls.h"
 #include "groups.h"
+#include "rule.h"
 #include "sheets.h"
 
 #include <begbija.h>
@@ -48,10 +49,9 @@ static int64_t plan_afresh(const struct plain_reading *reading, uint8_t *levels,
                                reading->temperature, table, need, levels, frame.jobs - reading->done, reply);
 }
 
-// There is a plan from the reading on; it ends no later than this and keeps every limit.
-static void check_kept(const struct plain_reading *reading, uint32_t time)
+// There is a plan from the reading on; it ends no later than this and keeps every limit. Its levels, and when it ends.
+static uint32_t check_kept(const struct plain_reading *reading, uint32_t time, uint8_t *levels)
 {
-    uint8_t levels[JOBS_MAX];
     struct begbija_reply reply;
     int64_t result = plan_afresh(reading, levels, &reply);
     check(result == 0 && reply.refusal == 0, "result %lld, though the plan was kept", (long long)result);
@@ -64,6 +64,7 @@ static void check_kept(const struct plain_reading *reading, uint32_t time)
     check(total.time <= frame.deadline && total.energy <= frame.energy_budget && total.highest <= frame.temperature_limit,
           "the plan breaks a limit when run without steps");
     end_call();
+    return total.time;
 }
 
 // The same reading, or below it in time, energy and temperature.
@@ -91,17 +92,31 @@ static void count_above(const struct plain_reading *kept)
     }
 }
 
+// The sheet's own plan, kept up to every job.
 static void check_jobs(uint64_t *seed, const uint8_t *levels, uint32_t time)
 {
+    const struct plain_reading first = plain_first_reading(&frame);
+    uint8_t afresh[JOBS_MAX];
     for (uint32_t done = 0; done < frame.jobs; done++) {
-        struct plain_reading kept = reading_after(&frame, levels, done);
-        check_kept(&kept, time);
+        struct plain_reading kept = reading_after(&frame, &first, levels, done);
+        check_kept(&kept, time, afresh);
         for (int i = 0; i < LOWER_READINGS; i++) {
             struct plain_reading below = draw_below(seed, &kept);
-            check_kept(&below, time);
+            check_kept(&below, time, afresh);
         }
         if (done > 0)
             count_above(&kept);
+    }
+}
+
+// A logger that follows the newest plan that it has.
+static void check_newest(uint64_t *seed, uint8_t *levels, uint32_t time)
+{
+    struct plain_reading now = plain_first_reading(&frame);
+    while (now.done + 1 < frame.jobs) {
+        struct plain_reading next = reading_after(&frame, &now, levels, 1);
+        now = draw(seed, 2) == 0 ? next : draw_below(seed, &next);
+        time = check_kept(&now, time, levels);
     }
 }
 
@@ -118,6 +133,7 @@ static void check_drawn(unsigned long count, uint64_t seed, uint64_t jobs_max, u
         frame.deadline = number % 2 == 0 ? frame.deadline : time;
         write_sheet(&sheet, &frame);
         check_jobs(&seed, levels, time);
+        check_newest(&seed, levels, time);
     }
 }
 

@@ -2,6 +2,7 @@
 // the largest margins on both sides of 0.
 #include "calls.h"
 #include "groups.h"
+#include "rule.h"
 #include "sheets.h"
 
 #include <string.h>

@@ -1,6 +1,7 @@
 // Lent memory of every critical length, for each outcome, and the largest table.
 #include "calls.h"
 #include "groups.h"
+#include "rule.h"
 #include "sheets.h"
 
 #include <stdio.h>

@@ -301,12 +301,13 @@ static void check_readings(const char *name, unsigned long number, const struct 
 {
     static struct sheet sheet;
     static uint32_t table[SEARCHED_WORDS];
+    const struct plain_reading first = plain_first_reading(frame);
     uint64_t seed = number;
     write_sheet(&sheet, frame);
     set_name(&sheet, "drawn sheet %lu, %s", number, name);
     size_t words = search_words(frame, table);
     for (uint32_t done = 0; done < frame->jobs; done++) {
-        struct plain_reading reading = reading_after(frame, levels, done);
+        struct plain_reading reading = reading_after(frame, &first, levels, done);
         check_read(&sheet, frame, &reading, table, words);
     }
     for (int i = 0; i < DRAWN_READINGS; i++) {

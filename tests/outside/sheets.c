@@ -270,12 +270,13 @@ size_t spoil_list(uint64_t *seed, const struct plain_frame *frame, uint8_t *leve
     return count;
 }
 
-struct plain_reading reading_after(const struct plain_frame *frame, const uint8_t *levels, uint32_t done)
+struct plain_reading reading_after(const struct plain_frame *frame, const struct plain_reading *from, const uint8_t *levels,
+                                   uint32_t count)
 {
-    struct plain_state state = plain_start(frame);
-    for (uint32_t job = 0; job < done; job++)
-        state = plain_after(frame, state, job, levels[job]);
-    return (struct plain_reading){done, state.level, state.time, state.energy, state.temperature};
+    struct plain_state state = plain_state_read(from);
+    for (uint32_t i = 0; i < count; i++)
+        state = plain_after(frame, state, from->done + i, levels[i]);
+    return (struct plain_reading){from->done + count, state.level, state.time, state.energy, state.temperature};
 }
 
 // A figure at, next to, or somewhere below another.
@@ -315,7 +316,8 @@ static void draw_ends(uint64_t *seed, const struct plain_frame *frame, struct pl
 
 struct plain_reading draw_reading(uint64_t *seed, const struct plain_frame *frame, const uint8_t *levels)
 {
-    struct plain_reading reading = reading_after(frame, levels, (uint32_t)draw(seed, frame->jobs));
+    const struct plain_reading first = plain_first_reading(frame);
+    struct plain_reading reading = reading_after(frame, &first, levels, (uint32_t)draw(seed, frame->jobs));
     uint64_t kind = draw(seed, 8);
     if (kind >= 2) {
         reading.time = draw_near(seed, kind == 2 ? frame->deadline : reading.time);

@@ -32,8 +32,9 @@ void draw_list(uint64_t *seed, const struct plain_frame *frame, uint8_t *levels)
 // Gives such a list another length, or levels that are too high, or both; how many levels it then has, LIST_ROOM at most.
 size_t spoil_list(uint64_t *seed, const struct plain_frame *frame, uint8_t *levels);
 
-// What is read after so many jobs of a list's run without steps.
-struct plain_reading reading_after(const struct plain_frame *frame, const uint8_t *levels, uint32_t done);
+// What is read after so many more jobs of a list's run without steps.
+struct plain_reading reading_after(const struct plain_frame *frame, const struct plain_reading *from, const uint8_t *levels,
+                                   uint32_t count);
 
 // A reading of such a run, or one near it, or one at the limits, or one with a figure at or next to the end of its range.
 struct plain_reading draw_reading(uint64_t *seed, const struct plain_frame *frame, const uint8_t *levels);

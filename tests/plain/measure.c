@@ -1,4 +1,4 @@
-#include "plain.h"
+#include "rule.h"
 
 struct plain_margins plain_measure(const struct plain_answer *answer, const uint8_t *levels, size_t count)
 {

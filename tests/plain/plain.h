@@ -99,9 +99,6 @@ bool plain_refused(const struct plain_answer *answer);
 // The refusal where the answered sheet is lent other memory; the answer's own table has to have as many words or more.
 struct plain_refusal plain_refusal_with(const struct plain_answer *answer, const struct plain_lent *lent);
 
-// What is read before the first job: the sheet's start.
-struct plain_reading plain_first_reading(const struct plain_frame *frame);
-
 // Runs the jobs still to do, one level for each.
 struct plain_total plain_run(const struct plain_frame *frame, const struct plain_reading *from, const uint8_t *levels);
 

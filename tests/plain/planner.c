@@ -15,11 +15,6 @@ void plain_walk(const struct plain_table *table, const struct plain_reading *fro
     }
 }
 
-struct plain_reading plain_first_reading(const struct plain_frame *frame)
-{
-    return (struct plain_reading){0, frame->start_level, 0, 0, frame->start_temperature};
-}
-
 struct plain_total plain_run(const struct plain_frame *frame, const struct plain_reading *from, const uint8_t *levels)
 {
     struct plain_state state = plain_state_read(from);

@@ -29,6 +29,12 @@ static inline uint32_t plain_steady_state(uint32_t power, uint32_t resistance)
     return (power * resistance + 5000) / 10000;
 }
 
+// What is read before the first job: the sheet's start.
+static inline struct plain_reading plain_first_reading(const struct plain_frame *frame)
+{
+    return (struct plain_reading){0, frame->start_level, 0, 0, frame->start_temperature};
+}
+
 // Where a run stands by a reading.
 static inline struct plain_state plain_state_read(const struct plain_reading *reading)
 {

@@ -58,9 +58,9 @@ pub extern "C" fn begbija_plan_afresh(
     ensures { λ q. ⌜ Answers (afreshOf (now (sheet .entry)) (reading done level time energy temperature) (length (now (table .entry))) (length (now (levels .entry)))) (now (table .entry)) (now (table .exit)) (now (levels .entry)) (now (levels .exit)) (replyIn (now (reply .exit))) ⌝ }
     ensures { λ q. ⌜ AfreshDemands (now (sheet .entry)) (reading done level time energy temperature) (length (now (table .entry))) (length (now (levels .entry))) (now (levels .exit)) (replyIn (now (reply .exit))) ⌝ }
 {
-    let r = afresh::plan_afresh(sheet, done, level, time, energy, temperature, table, levels);
-    c_values::put_reply(r, reply);
-    c_values::count_or_refusal(r.refusal, 0)
+    let a = afresh::plan_afresh(sheet, done, level, time, energy, temperature, table, levels);
+    c_values::put_reply(a, reply);
+    c_values::count_or_refusal(a.refusal, 0)
 }
 
 // 0 for a list that was measured, or minus the refusal; the figures of either in `margins`.

@@ -8,7 +8,7 @@ use lib.Dec.{leb, ltb}
 use borrow.Author.Tests.{leb-true, leb-false, ltb-true, ltb-false}
 use Rattle.frame.specs.Sheet.{Sheet, limitMax, temperatureMax}
 use Rattle.frame.specs.Run.{State}
-use Rattle.frame.specs.Afresh.{InRange}
+use Rattle.frame.specs.Afresh.{InRange, Readable}
 use Rattle.frame.specs.Table.{wordsMax}
 use Rattle.fields.proofs.Within.{cond-cases}
 use Rattle.checks.specs.Checks.{lackOf, faultOf}
@@ -60,7 +60,7 @@ lack-none need n words bytes =
     lack-cases (λ c. c ≡ 0 → (need ≤ wordsMax) × (need ≤ words) × (n ≤ bytes)) need n words bytes
     (λ a e. absurd (omega (arith, e))) (λ a b e. absurd (omega (arith, e))) (λ a b c e. absurd (omega (arith, e))) (λ a b c e. (a, b, c))
 
-pub fault-passed : (s : Sheet) (a : State) → faultOf s a ≡ 0 → (a.done < s.jobs) × InRange s a × (a.temperature ≤ s.temperatureLimit)
+pub fault-passed : (s : Sheet) (a : State) → faultOf s a ≡ 0 → Readable s a
 fault-passed s a =
-    fault-cases (λ c. c ≡ 0 → (a.done < s.jobs) × InRange s a × (a.temperature ≤ s.temperatureLimit)) s a
-    (λ d e. absurd (omega (arith, e))) (λ d r e. absurd (omega (arith, e))) (λ d r h e. absurd (omega (arith, e))) (λ d r h e. (d, r, h))
+    fault-cases (λ c. c ≡ 0 → Readable s a) s a
+    (λ d e. absurd (omega (arith, e))) (λ d r e. absurd (omega (arith, e))) (λ d r h e. absurd (omega (arith, e))) (λ d r h e. record { done = d; range = r; temperature = h })

@@ -11,9 +11,9 @@ use Rattle.frame.specs.Sheet.{Sheet, Ranges}
 use Rattle.frame.specs.Run.{State, start}
 use Rattle.frame.specs.Demands.{Best, endTime, Keeps, Figures, figures}
 use Rattle.frame.specs.Plan.{outcome}
-use Rattle.frame.specs.Afresh.{InRange, jobsLeft, tightenedLeft, Kept}
+use Rattle.frame.specs.Afresh.{InRange, Readable, jobsLeft, tightenedLeft, Kept}
 use Rattle.frame.specs.Table.{need}
-use Rattle.frame.proofs.Afresh.{left-demand2, left-demand3, spent-keeps, late-keeps, kept-range, kept-rest}
+use Rattle.frame.proofs.Afresh.{left-demand2, left-demand3, spent-keeps, late-keeps, kept-readable, kept-rest}
 use Rattle.sheet.specs.Reading.{readingOf, sheetIn}
 use Rattle.checks.specs.Checks.{faultOf}
 use Rattle.checks.proofs.Checks.{fault-cases}
@@ -21,7 +21,7 @@ use Rattle.reply.specs.declared.Reply.{Reply}
 use Rattle.reply.specs.Answer.{Answer, foundFrom, refusedReply, Answers}
 use Rattle.demands.specs.Order.{unless, afreshFor, afreshTo, afreshOf}
 use Rattle.demands.specs.Demands.{Enough, Memory, Demand3}
-use Rattle.demands.specs.Afresh.{Readable, Passed, LeftDemands, AfreshDemands}
+use Rattle.demands.specs.Afresh.{Passed, LeftDemands, AfreshDemands}
 use Rattle.demands.proofs.Demands.{unlooked, on-found, Lacks, memory-enough, lack-split, by-reading}
 
 -- ---- what is read
@@ -95,14 +95,23 @@ module _ {s : Sheet} (ok : Ranges s) {a : State} (new : a.peak ≡ 0) {words byt
       d .answer .ten .1
       (w, λ js k. ⊎-elim (λ e. spent-keeps s ok (jobsLeft s a) some a cool js e k) (λ e. late-keeps s ok (jobsLeft s a) some a cool js e k) h)
 
-  kept-holds : (js : List ℕ) → Best s s.jobs (start s) js → Kept s js a → Enough s (jobsLeft s a) words bytes → (r .refusal ≡ 0) × (r .time ≤ endTime s (start s) js)
+  -- A list for the m jobs left from b, of which n were done as it has them.
+  kept-holds : (b : State) → b.level < s.levels → b.temperature ≤ s.temperatureLimit → b.peak ≡ 0 → (m : ℕ) → m ≡ jobsLeft s b → (js : List ℕ) → Best s m b js →
+      (n : ℕ) → Kept s b js n a → Enough s (jobsLeft s a) words bytes → (r .refusal ≡ 0) × (r .time ≤ endTime s b js)
   unfolding figures
-  kept-holds js b k w =
-      let size = b .keeps .levels .size in
-      let range = kept-range s ok js size a new k (b .keeps) in
-      let rest = kept-rest s ok js size a new k s.deadline (b .keeps) in
-      let z = d .answer .plan .1 ((w, record { done = k .done; range = range .0; temperature = range .1 }), (drop a.done js, rest .0)) in
-      (z, omega (arith, ap (λ (f : Figures). f .time) (d .figures z), d .answer .best z .least (drop a.done js) (rest .0), rest .1))
+  kept-holds b l t p m e js best n k w =
+      let size = best .keeps .levels .size in
+      let read = kept-readable s ok b m e js size n a new k l t (omega arith) (best .keeps) in
+      let rest = kept-rest s ok b m e js size n a new k s.deadline (best .keeps) in
+      let z = d .answer .plan .1 ((w, read), (drop n js, rest .0)) in
+      (z, omega (arith, ap (λ (f : Figures). f .time) (d .figures z), d .answer .best z .least (drop n js) (rest .0), rest .1))
+
+  kept-first : (js : List ℕ) → Best s s.jobs (start s) js → Kept s (start s) js a.done a → Enough s (jobsLeft s a) words bytes → (r .refusal ≡ 0) × (r .time ≤ endTime s (start s) js)
+  kept-first js best k w = kept-holds (start s) (ok .startLevel) (ok .cool) refl s.jobs (omega arith) js best a.done k w
+
+  kept-again : (b : State) → Readable s b → b.peak ≡ 0 → (js : List ℕ) → Best s (jobsLeft s b) b js → (n : ℕ) → Kept s b js n a →
+      Enough s (jobsLeft s a) words bytes → (r .refusal ≡ 0) × (r .time ≤ endTime s b js)
+  kept-again b h p js best n k w = kept-holds b (h .range .level) (h .temperature) p (jobsLeft s b) refl js best n k w
 
 -- ---- the answer's own cases
 
@@ -123,7 +132,8 @@ module _ (s : Sheet) (ok : Ranges s) (a : State) (new : a.peak ≡ 0) (n : ℕ) 
         five = ((λ q. absurd (omega (arith, l .low))), (λ q. absurd (l .short (q .0))));
         found = f;
         past = past-holds ok new f;
-        kept = kept-holds ok new f;
+        kept = kept-first ok new f;
+        kept-afresh = kept-again ok new f;
       }
 
   module _ (w : Enough s (jobsLeft s a) n (length bytes)) where
@@ -137,7 +147,8 @@ module _ (s : Sheet) (ok : Ranges s) (a : State) (new : a.peak ≡ 0) (n : ℕ) 
           five = ((λ q. let h = l .five .0 q in (w, h .0, h .1, h .2)), (λ q. l .five .1 (q .1, q .2, q .3)));
           found = f;
           past = past-holds ok new f;
-          kept = kept-holds ok new f;
+          kept = kept-first ok new f;
+        kept-afresh = kept-again ok new f;
         }
 
     on-readable : Readable s a → Answers (foundFrom s a) words words' bytes bytes' r → holds
@@ -155,7 +166,8 @@ module _ (s : Sheet) (ok : Ranges s) (a : State) (new : a.peak ≡ 0) (n : ℕ) 
           five = ((λ q. absurd (f .1 5 (λ e. omega arith) (λ e. omega arith) q)), (λ q. absurd (omega (arith, t .temperature, q .3))));
           found = f .0;
           past = past-holds ok new (f .0);
-          kept = kept-holds ok new (f .0);
+          kept = kept-first ok new (f .0);
+          kept-afresh = kept-again ok new (f .0);
         }
 
   on-left : Answers (afreshFor s a n (length bytes)) words words' bytes bytes' r → holds

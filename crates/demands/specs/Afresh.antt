@@ -1,4 +1,5 @@
--- The demands on a frame planned afresh after a job (document 02, W1), in words.
+-- The demands on a frame planned afresh after a job (document 02, W1), in words. What the table and the part hold besides is said by the
+-- equations of `reply`.
 -- Assumes nothing.
 use mathlib.Core.Logic.{_↔_, _⊎_}
 use mathlib.Core.Path.{_≡_}
@@ -7,19 +8,13 @@ use Prim.Native.Nat.{ℕ, _≤_, _<_}
 use Rattle.frame.specs.Sheet.{Sheet}
 use Rattle.frame.specs.Run.{State, start}
 use Rattle.frame.specs.Demands.{Best, endTime}
-use Rattle.frame.specs.Afresh.{InRange, jobsLeft, tightenedLeft, Kept}
+use Rattle.frame.specs.Afresh.{InRange, Readable, jobsLeft, tightenedLeft, Kept}
 use Rattle.refusal.specs.declared.Refusal.the-variants.{Nothing}
 use Rattle.refusal.specs.Code.{numberOf, lineOf, fieldOf}
 use Rattle.sheet.specs.Reading.{readingOf, sheetIn}
 use Rattle.reply.specs.declared.Reply.{Reply}
 use Rattle.reply.specs.Answer.{refusedReply}
 use Rattle.demands.specs.Demands.{Enough, Memory, Demand3}
-
--- Neither 13, 14 nor the reading's 5 applies.
-pub record Readable (s : Sheet) (a : State) : Type 0 where
-  pub done : a.done < s.jobs
-  pub range : InRange s a
-  pub temperature : a.temperature ≤ s.temperatureLimit
 
 -- None of the refusals before 10 applies: "the part gets only the remaining levels (9 is judged by their count, at least 0)".
 abbrev pub Passed : Sheet → State → ℕ → ℕ → Type 0
@@ -40,8 +35,11 @@ pub record LeftDemands (s : Sheet) (a : State) (words bytes : ℕ) (part : List 
   pub past : Passed s a words bytes → (s.energyBudget < a.energy) ⊎ (s.deadline < a.time) → r .refusal ≡ 10
   -- "If the first plan was kept so far, level included, the memory suffices and no reading is above that plan's run without grains, a
   -- plan must be found that ends no later."
-  pub kept : (js : List ℕ) → Best s s.jobs (start s) js → Kept s js a → Enough s (jobsLeft s a) words bytes →
+  pub kept : (js : List ℕ) → Best s s.jobs (start s) js → Kept s (start s) js a.done a → Enough s (jobsLeft s a) words bytes →
       (r .refusal ≡ 0) × (r .time ≤ endTime s (start s) js)
+  -- the same of a plan that was itself made afresh, from an earlier reading b
+  pub kept-afresh : (b : State) → Readable s b → b.peak ≡ 0 → (js : List ℕ) → Best s (jobsLeft s b) b js → (n : ℕ) → Kept s b js n a →
+      Enough s (jobsLeft s a) words bytes → (r .refusal ≡ 0) × (r .time ≤ endTime s b js)
 
 -- For every sequence of bytes offered as a sheet, and every reading.
 pub record AfreshDemands (sheet : List ℕ) (a : State) (words bytes : ℕ) (part : List ℕ) (r : Reply) : Type 0 where

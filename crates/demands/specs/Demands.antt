@@ -49,7 +49,7 @@ pub record Fixed (s : Sheet) (n : ℕ) (a : State) (passed : Type 0) (part : Lis
   pub place : r .refusal ≡ 0 → (r .line ≡ 0) × (r .field ≡ 0)
   pub zeros : ¬ (r .refusal ≡ 0) → r ≡ refusedReply (r .refusal) 0 0
 
--- Demand 3 on it, with k the tightened limits.
+-- Demand 3 on the same answer, with k the tightened limits.
 pub record Demand3 (s : Sheet) (k : Limits) (n : ℕ) (a : State) (passed : Type 0) (part : List ℕ) (r : Reply) : Type 0 where
   -- "the answer is the one that demands 1 and 2 fix"
   pub answer : Fixed s n a passed part r

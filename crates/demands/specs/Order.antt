@@ -42,7 +42,7 @@ turnedAway f = refused (numberOf f) (lineOf f) (fieldOf f)
 unfoldable pub answerBy : SheetRead → (Sheet → Answer) → Answer
 answerBy r answer = accepted (r .refusal) turnedAway (answer (sheetOf (r .head) (r .store)))
 
--- With a table of so many words and a part of so many bytes.
+-- The answer to a sheet that was read, with a table of so many words and a part of so many bytes.
 unfoldable pub answerTo : SheetRead → ℕ → ℕ → Answer
 answerTo r words bytes = answerBy r (λ s. answerFor s words bytes)
 
@@ -54,5 +54,6 @@ answerOf sheet words bytes = answerTo (readingOf sheet) words bytes
 unfoldable pub afreshTo : SheetRead → State → ℕ → ℕ → Answer
 afreshTo r a words bytes = answerBy r (λ s. afreshFor s a words bytes)
 
+-- The answer to a sheet, planned afresh from a reading.
 unfoldable pub afreshOf : List ℕ → State → ℕ → ℕ → Answer
 afreshOf sheet a words bytes = afreshTo (readingOf sheet) a words bytes

@@ -4,15 +4,16 @@ use mathlib.Core.Path.{_≡_, refl, sym, ap, subst, _∙_}
 use mathlib.Core.List.{List, [], _∷_, _++_}
 use Prim.Native.Nat.{ℕ, suc, _+_, _*_, _-_, _≤_, _<_}
 use native.Mathlib.Omega.{arith}
+use native.Mathlib.Decide.{decLe}
 use lib.ListN.{length, take, drop, take-append-drop, length-drop}
 use lib.Seq.{length-take-le}
 use Rattle.thermal.proofs.Rounding.{raise-ge}
 use Rattle.frame.specs.Sheet.{Sheet, Ranges}
-use Rattle.frame.specs.Run.{State, start, change, job, step, exact, raised, run, exactRun, roundedRun}
+use Rattle.frame.specs.Run.{State, change, job, step, exact, raised, run, exactRun, roundedRun}
 use Rattle.frame.specs.Limits.{Limits, Within, Meets, limits, limitsBy}
 use Rattle.frame.specs.Demands.{Below, Keeps, Tight, endTime, noPlan, OutcomeDemand2, OutcomeDemand3}
 use Rattle.frame.specs.Plan.{outcome}
-use Rattle.frame.specs.Afresh.{InRange, jobsLeft, tightenedLeft, ranTo, Kept}
+use Rattle.frame.specs.Afresh.{reading, Readable, jobsLeft, tightenedLeft, ranTo, Kept}
 use Rattle.frame.proofs.Slack.{Near, rounded-sound, left-keeps, lower-meets, lower-run, rounded-above}
 use Rattle.frame.proofs.Demand2.{keeps-soon, demand2, demand2-unique}
 use Rattle.frame.proofs.Demand3.{less-tighter, demand3}
@@ -36,6 +37,13 @@ run-done : (s : Sheet) (xs : List ℕ) (a : State) → (exactRun s a xs) .done �
 unfolding step change job
 run-done s [] a = omega arith
 run-done s (x ∷ xs) a = omega (arith, run-done s xs (step s a x))
+
+-- What the list's own run shows is a reading that keeps it: nothing is above itself.
+pub kept-own : (s : Sheet) (b : State) (js : List ℕ) (n : ℕ) → n ≤ length js → b.done + n < s.jobs →
+    let c = ranTo s b js n in Kept s b js n (reading c.done c.level c.time c.energy c.temperature)
+kept-own s b js n l h =
+    let d : (ranTo s b js n) .done ≡ b.done + n = omega (arith, run-done s (take n js) b, length-take-le n js l) in
+    record { done = d; left = omega arith; level = refl; time = omega arith; energy = omega arith; temperature = omega arith }
 
 module _ (s : Sheet) (ok : Ranges s) where
   -- ---- demands 2 and 3, from any state whose peak is within the temperature limit, where a job is left
@@ -81,40 +89,50 @@ module _ (s : Sheet) (ok : Ranges s) where
   unfolding step change job
   inside-step a j h w = omega (arith, w)
 
+  -- A state from which a list keeps the limits is within them itself.
+  keeps-inside : (n : ℕ) → 1 ≤ n → (a : State) → a.peak ≤ s.temperatureLimit → a.level < s.levels → a.temperature ≤ s.temperatureLimit →
+      (js : List ℕ) → Keeps s s.deadline n a js → Inside a
+  keeps-inside n some a cool l t js w =
+      record {
+        level = l;
+        time = keeps-soon s n a s.deadline js some w;
+        energy = elim (decLe a.energy s.energyBudget) [ | yes h ↦ h | no h ↦ absurd (spent-keeps n some a cool js (omega arith) w) ];
+        temperature = t;
+      }
+
   ran-inside : (xs ys : List ℕ) (a : State) → Inside a → Below s.levels (xs ++ ys) → Meets s exact (limits s) a (xs ++ ys) → Inside (exactRun s a xs)
   ran-inside [] ys a h u w = h
   ran-inside (x ∷ xs) ys a h u w = ran-inside xs ys (step s a x) (inside-step a x (u .0) (w .0)) (u .1) (w .1)
 
-  module _ (js : List ℕ) (size : length js ≡ s.jobs) (a : State) (new : a.peak ≡ 0) (k : Kept s js a) where
-    -- What is read lies nowhere above the list's run without grains.
-    kept-near : Near 0 0 (ranTo s js a.done) a
-    kept-near = omega (arith, k, run-done s (take a.done js) (start s), length-take-le a.done js (omega (arith, k .done)))
+  -- What is read after n jobs of a list for the m jobs left from b.
+  module _ (b : State) (m : ℕ) (e : m ≡ jobsLeft s b) (js : List ℕ) (size : length js ≡ m) (n : ℕ) (a : State) (new : a.peak ≡ 0) (k : Kept s b js n a) where
+    -- It lies nowhere above the list's exact run.
+    kept-near : Near 0 0 (ranTo s b js n) a
+    kept-near = omega (arith, k, run-done s (take n js) b, length-take-le n js (omega (arith, k .done, k .left)))
 
     -- It is in its ranges, and not above the temperature limit.
-    pub kept-range : Keeps s s.deadline s.jobs (start s) js → InRange s a × (a.temperature ≤ s.temperatureLimit)
-    kept-range w =
-        let e : take a.done js ++ drop a.done js ≡ js = take-append-drop a.done js in
-        let i : Inside (start s) = record { level = ok .startLevel; time = omega arith; energy = omega arith; temperature = ok .cool } in
+    pub kept-readable : b.level < s.levels → b.temperature ≤ s.temperatureLimit → b.peak ≤ s.temperatureLimit → Keeps s s.deadline m b js → Readable s a
+    kept-readable l t p w =
+        let i = keeps-inside m (omega (arith, k .done, k .left)) b p l t js w in
         let h =
-        ran-inside (take a.done js) (drop a.done js) (start s) i
-        (rw e (w .levels .below)) (rw e (rounded-sound s ok (limits s) js (start s) (w .meets))) in
-        (omega (arith, h, k, ok .deadline, ok .energyBudget, ok .temperatureLimit), omega (arith, h, k))
+        ran-inside (take n js) (drop n js) b i
+        (rw (take-append-drop n js) (w .levels .below)) (rw (take-append-drop n js) (rounded-sound s ok (limits s) js b (w .meets))) in
+        record { done = k .left; range = omega (arith, h, k, ok .deadline, ok .energyBudget, ok .temperatureLimit); temperature = omega (arith, h, k) }
 
     -- The list's remaining jobs keep the limits from there and end no later.
-    pub kept-rest : (d : ℕ) → Keeps s d s.jobs (start s) js →
-        Keeps s d (jobsLeft s a) a (drop a.done js) × (endTime s a (drop a.done js) ≤ endTime s (start s) js)
+    pub kept-rest : (d : ℕ) → Keeps s d m b js → Keeps s d (jobsLeft s a) a (drop n js) × (endTime s a (drop n js) ≤ endTime s b js)
     kept-rest d w =
-        let xs = take a.done js in
-        let ys = drop a.done js in
-        let e : xs ++ ys ≡ js = take-append-drop a.done js in
-        let b = subst (λ (z : List ℕ). Below s.levels z) (sym e) (w .levels .below) in
-        let m = meets-rest s (raised s) (limitsBy s d) xs ys (start s) (subst (λ (z : List ℕ). Meets s (raised s) (limitsBy s d) (start s) z) (sym e) (w .meets)) in
-        let h : Near 0 0 (roundedRun s (start s) xs) a = omega (arith, kept-near, rounded-above s ok xs (start s)) in
-        let q = ap (λ (z : State). z.time) (sym (run-rest s exact xs ys (start s)) ∙ ap (exactRun s (start s)) e) in
-        let z = lower-run s ok exact (λ x y l. l) ys (ranTo s js a.done) a kept-near in (
+        let xs = take n js in
+        let ys = drop n js in
+        let q : xs ++ ys ≡ js = take-append-drop n js in
+        let u = subst (λ (z : List ℕ). Below s.levels z) (sym q) (w .levels .below) in
+        let v = meets-rest s (raised s) (limitsBy s d) xs ys b (subst (λ (z : List ℕ). Meets s (raised s) (limitsBy s d) b z) (sym q) (w .meets)) in
+        let h : Near 0 0 (roundedRun s b xs) a = omega (arith, kept-near, rounded-above s ok xs b) in
+        let t = ap (λ (z : State). z.time) (sym (run-rest s exact xs ys b) ∙ ap (exactRun s b) q) in
+        let z = lower-run s ok exact (λ x y l. l) ys (ranTo s b js n) a kept-near in (
           record {
-            levels = record { size = length-drop a.done js ∙ ap (λ (i : ℕ). i - a.done) size; below = below-rest s.levels xs ys b };
-            meets = lower-meets s ok (limitsBy s d) ys (roundedRun s (start s) xs) a h m;
+            levels = record { size = length-drop n js ∙ omega (arith, size, k .done); below = below-rest s.levels xs ys u };
+            meets = lower-meets s ok (limitsBy s d) ys (roundedRun s b xs) a h v;
           },
-          omega (arith, q, z .time),
+          omega (arith, t, z .time),
         )

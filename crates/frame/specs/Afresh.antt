@@ -3,10 +3,10 @@
 -- Assumes nothing.
 use mathlib.Core.Path.{_≡_}
 use mathlib.Core.List.{List}
-use Prim.Native.Nat.{ℕ, _*_, _-_, _≤_, _<_}
+use Prim.Native.Nat.{ℕ, _+_, _*_, _-_, _≤_, _<_}
 use lib.ListN.{take}
 use Rattle.frame.specs.Sheet.{Sheet, limitMax, temperatureMax}
-use Rattle.frame.specs.Run.{State, start, exactRun}
+use Rattle.frame.specs.Run.{State, exactRun}
 use Rattle.frame.specs.Limits.{Limits, lessSlack}
 
 -- "Given jobs done, present level, elapsed time, energy spent and temperature": the state from which the remaining jobs run. None
@@ -15,13 +15,19 @@ abbrev pub reading : ℕ → ℕ → ℕ → ℕ → ℕ → State
 reading done level time energy temperature =
     record { done = done; level = level; time = time; energy = energy; temperature = temperature; peak = 0 }
 
--- What 14 tests is in order: "14 where the level is l or more, time or energy is above 2,000,000,000, or temperature is above
+-- Nothing that 14 tests is out of range: "14 where the level is l or more, time or energy is above 2,000,000,000, or temperature is above
 -- 20,000".
 pub record InRange (s : Sheet) (a : State) : Type 0 where
   pub level : a.level < s.levels
   pub time : a.time ≤ limitMax
   pub energy : a.energy ≤ limitMax
   pub temperature : a.temperature ≤ temperatureMax
+
+-- Neither 13, 14 nor the reading's 5 applies: "13 where jobs done is m or more"; "A reading above the ceiling is number 5".
+pub record Readable (s : Sheet) (a : State) : Type 0 where
+  pub done : a.done < s.jobs
+  pub range : InRange s a
+  pub temperature : a.temperature ≤ s.temperatureLimit
 
 -- The jobs still to do: m less the jobs done, "at least 0".
 abbrev pub jobsLeft : Sheet → State → ℕ
@@ -32,15 +38,17 @@ jobsLeft s a = s.jobs - a.done
 unfoldable pub tightenedLeft : Sheet → ℕ → Limits
 tightenedLeft s n = lessSlack s (n * (s.energyStep - 1)) (n * (s.temperatureStep - 1))
 
--- A list's run without grains, after its first n jobs.
-abbrev pub ranTo : Sheet → List ℕ → ℕ → State
-ranTo s js n = exactRun s (start s) (take n js)
+-- The exact run of the first n jobs of a list, from a state b.
+abbrev pub ranTo : Sheet → State → List ℕ → ℕ → State
+ranTo s b js n = exactRun s b (take n js)
 
--- "If the first plan was kept so far, level included, .. and no reading is above that plan's run without grains": the level is that of
--- the list's last job done, and the start level where none is.
-pub record Kept (s : Sheet) (js : List ℕ) (a : State) : Type 0 where
-  pub done : a.done < s.jobs
-  pub level : a.level ≡ (ranTo s js a.done) .level
-  pub time : a.time ≤ (ranTo s js a.done) .time
-  pub energy : a.energy ≤ (ranTo s js a.done) .energy
-  pub temperature : a.temperature ≤ (ranTo s js a.done) .temperature
+-- "If the first plan was kept so far, level included, .. and no reading is above that plan's run without grains": a is what is read after
+-- n jobs of a list that was planned from b. The level is that of the last job done, and b's where none is; b is the sheet's start for
+-- the first plan.
+pub record Kept (s : Sheet) (b : State) (js : List ℕ) (n : ℕ) (a : State) : Type 0 where
+  pub done : a.done ≡ b.done + n
+  pub left : a.done < s.jobs
+  pub level : a.level ≡ (ranTo s b js n) .level
+  pub time : a.time ≤ (ranTo s b js n) .time
+  pub energy : a.energy ≤ (ranTo s b js n) .energy
+  pub temperature : a.temperature ≤ (ranTo s b js n) .temperature

@@ -228,7 +228,7 @@ cases T s =
     ∷ tightens (tightenedLeft (sheet 50 100 2500 10 100) 1) (pos 50) (pos 91) (pos 2401)
     ∷ tightens (tightenedLeft (sheet 50 100 2500 10 100) 2) (pos 50) (pos 82) (pos 2302)
     -- the run of levels 1, 0 so far: no job, and log
-    ∷ gives ((ranTo (sheet 50 100 2500 10 100) (1 ∷ 0 ∷ []) 0) .level) 0
-    ∷ gives ((ranTo (sheet 50 100 2500 10 100) (1 ∷ 0 ∷ []) 1) .level) 1
-    ∷ gives ((ranTo (sheet 50 100 2500 10 100) (1 ∷ 0 ∷ []) 1) .energy) 48
+    ∷ gives ((ranTo (sheet 50 100 2500 10 100) (start (sheet 50 100 2500 10 100)) (1 ∷ 0 ∷ []) 0) .level) 0
+    ∷ gives ((ranTo (sheet 50 100 2500 10 100) (start (sheet 50 100 2500 10 100)) (1 ∷ 0 ∷ []) 1) .level) 1
+    ∷ gives ((ranTo (sheet 50 100 2500 10 100) (start (sheet 50 100 2500 10 100)) (1 ∷ 0 ∷ []) 1) .energy) 48
     ∷ []

@@ -13,7 +13,7 @@ use Rattle.frame.specs.Afresh.{jobsLeft}
 use Rattle.frame.specs.Table.{filled}
 use Rattle.reply.specs.declared.Reply.{Reply}
 
--- A refusal of 1 to 9 by its number, line and field, before the table is touched; or what is found in the filled table of a sheet for
+-- A refusal of 1 to 9, 13 or 14 by its number, line and field, before the table is touched; or what is found in the filled table of a sheet for
 -- its next n jobs, from a state.
 pub data Answer : Type 0 where
   refused : ℕ → ℕ → ℕ → Answer
@@ -44,7 +44,7 @@ PeakOf (refused number line field) peak = Unit
 PeakOf (found s n a (planned js)) peak = Between ((exactRun s a js) .peak) s.temperatureLimit peak
 PeakOf (found s n a noPlan) peak = Unit
 
--- The table afterwards: 1 to 9 leave it, and for a plan and for "no plan" it is filled.
+-- The table afterwards: every refusal but 10 leaves it, and for a plan and for "no plan" it is filled.
 abbrev pub tableAfter : Answer → List ℕ → List ℕ
 tableAfter (refused number line field) table = table
 tableAfter (found s n a o) table = filled s table

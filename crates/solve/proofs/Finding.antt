@@ -12,6 +12,7 @@ use Rattle.frame.specs.Sheet.{Sheet, Ranges}
 use Rattle.frame.specs.Run.{State, exact, exactRun}
 use Rattle.frame.specs.Limits.{limits}
 use Rattle.frame.specs.Demands.{Outcome, planned, noPlan, Below, OutcomeDemand2, figures}
+use Rattle.frame.specs.Afresh.{Readable}
 use Rattle.frame.specs.Plan.{least, plan, outcome}
 use Rattle.frame.specs.Table.{need, filled}
 use Rattle.frame.proofs.Run.{meets-peak}
@@ -27,11 +28,11 @@ use Rattle.table.proofs.Cells.{filled-words}
 use Rattle.walk.specs.Walk.{Starts}
 use Rattle.reply.specs.declared.Reply.{Reply}
 use Rattle.reply.specs.Answer.{found, plannedAs, refusedReply, tableAfter, partAfter, Answers}
-use Rattle.solve.specs.Solve.{Origin, isPlan, Finds}
+use Rattle.solve.specs.Solve.{isPlan, Finds}
 
 -- ---- the start's word
 
-module _ {s : Sheet} {f : Frame} (x : Axes s f) (b : Run) (w : Origin s (stateOf b)) (u : b .energy ≤ s.energyBudget) where
+module _ {s : Sheet} {f : Frame} (x : Axes s f) (b : Run) (w : Readable s (stateOf b)) (u : b .energy ≤ s.energyBudget) where
   pub start-looks : {n : ℕ} → need s ≤ n → b .done < f .head .jobs → Looks f b n
   start-looks h d = looks x b (w .range .level) u (w .temperature) h d
 
@@ -72,7 +73,7 @@ module _ (s : Sheet) (n : ℕ) (a : State) (k : ℕ) (e : k ≡ least s n a) whe
       record { plan = ap isPlan o; table = w; part = p ∙ ap (λ (z : Outcome). partAfter (found s n a z) bytes) o }
 
 -- What the walk rests on.
-pub starts : {s : Sheet} {a : State} (k : ℕ) → Ranges s → Origin s a → a.energy ≤ s.energyBudget → k ≡ least s (s.jobs - a.done) a → a.time + k ≤ s.deadline → Starts s a
+pub starts : {s : Sheet} {a : State} (k : ℕ) → Ranges s → Readable s a → a.energy ≤ s.energyBudget → k ≡ least s (s.jobs - a.done) a → a.time + k ≤ s.deadline → Starts s a
 starts k ok w u e h =
     record {
       done = w .done;
@@ -122,13 +123,13 @@ module _ (s : Sheet) (n : ℕ) (a : State) (words words' bytes bytes' : List ℕ
     pub answers-none : b ≡ false → (q : Reply) → q ≡ refusedReply 10 0 0 → Answers (found s n a (outcome s n a)) words words' bytes bytes' q
     answers-none t q e = on-none (outcome s n a) (sym (w .plan) ∙ t) (w .table) (w .part) q e
 
-    module _ (ok : Ranges s) (some : 1 ≤ n) (l : Origin s a) (t : b ≡ true) where
+    module _ (ok : Ranges s) (some : 1 ≤ n) (cool : a.peak ≤ s.temperatureLimit) (t : b ≡ true) where
       best : OutcomeDemand2 s n a (outcome s n a)
-      best = left-demand2 s ok n some a (l .peak)
+      best = left-demand2 s ok n some a cool
 
       pub plan-levels : (i : ℕ) → i < n → getD bytes' i 0 < s.levels
       plan-levels i h = on-levels (outcome s n a) best (sym (w .plan) ∙ t) (w .part) i h
 
       pub answers-plan : (c : State) (q : Reply) → c ≡ exactRun s a (take n bytes') →
           q ≡ plannedAs (record { time = c.time; energy = c.energy; temperature = c.temperature }) c.peak → Answers (found s n a (outcome s n a)) words words' bytes bytes' q
-      answers-plan c q e z = on-plan (outcome s n a) ok (l .peak) best (sym (w .plan) ∙ t) (w .table) (w .part) c q e z
+      answers-plan c q e z = on-plan (outcome s n a) ok cool best (sym (w .plan) ∙ t) (w .table) (w .part) c q e z

@@ -3,26 +3,20 @@
 use mathlib.Core.Path.{_≡_}
 use mathlib.Core.Bool.{Bool, true, false}
 use mathlib.Core.List.{List}
-use Prim.Native.Nat.{ℕ, _≤_, _<_}
+use Prim.Native.Nat.{ℕ, _≤_}
 use Rattle.frame.specs.Sheet.{Sheet}
 use Rattle.frame.specs.Run.{State}
 use Rattle.frame.specs.Demands.{Outcome, planned, noPlan}
 use Rattle.frame.specs.Plan.{outcome}
-use Rattle.frame.specs.Afresh.{InRange, jobsLeft}
+use Rattle.frame.specs.Afresh.{Readable, jobsLeft}
 use Rattle.frame.specs.Table.{need}
 use Rattle.reply.specs.Answer.{found, tableAfter, partAfter}
 
--- A state that can be planned from, the sheet's start or a reading: a job is left, and nothing is out of range or above the
--- temperature limit. Time and energy may be past their limits: there is no plan then.
-pub record Origin (s : Sheet) (a : State) : Type 0 where
-  pub done : a.done < s.jobs
-  pub range : InRange s a
-  pub temperature : a.temperature ≤ s.temperatureLimit
-  pub peak : a.peak ≤ s.temperatureLimit
-
--- What planning from a state rests on: the table has the need's words, the part a byte for each job that is left.
+-- What planning from a state rests on: a job is left, and nothing is out of range or above the temperature limit; the table has the
+-- need's words, the part a byte for each job that is left. Time and energy may be past their limits: there is no plan then.
 pub record Ready (s : Sheet) (a : State) (words bytes : ℕ) : Type 0 where
-  pub origin : Origin s a
+  pub readable : Readable s a
+  pub peak : a.peak ≤ s.temperatureLimit
   pub table : need s ≤ words
   pub part : jobsLeft s a ≤ bytes
 

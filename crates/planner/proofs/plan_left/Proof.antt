@@ -87,7 +87,8 @@ solve-requires c κs = let a = c .before .before .before .before .before .before
     rw (c .before .before .before .before .before .before .before .before .frame-of .ensures) (record {
       axes = axes _ _ ok (m .0);
       ready = record {
-        origin = record { done = t .0; range = t .1; temperature = t .2; peak = omega (arith, a .pre .ahead) };
+        readable = t;
+        peak = omega (arith, a .pre .ahead);
         table = m .1;
         part = m .2;
       };

@@ -30,14 +30,14 @@ returns : tie.Need-returns
 unfolding sheetOf
 returns c =
     let a = c .before .before .before .before .before .before .before .before .before in
-    let w = a .pre .ready .origin in
-    finds-spent (sheet a) _ _ (a .pre .framed .axes .ranges) (omega (arith, w .done)) (w .peak) (c .if1 .taken) (c .before .before .before .before .before .fill .ensures) refl
+    let w = a .pre .ready in
+    finds-spent (sheet a) _ _ (a .pre .framed .axes .ranges) (omega (arith, w .readable .done)) (w .peak) (c .if1 .taken) (c .before .before .before .before .before .fill .ensures) refl
 
 rest-of-requires : tie.Need-rest-of-requires
 unfolding sheetOf
 rest-of-requires c κs = λ d.
     let a = c .before .before .before .before .before .before .before .before .before .before .pre in
-    start-looks (a .framed .axes) _ (a .ready .origin) (omega (arith, c .before .if1 .left)) (omega (arith, a .ready .table, c .before .before .before .before .before .before .fill .kept .1 .1 .1 .0)) d
+    start-looks (a .framed .axes) _ (a .ready .readable) (omega (arith, c .before .if1 .left)) (omega (arith, a .ready .table, c .before .before .before .before .before .before .fill .kept .1 .1 .1 .0)) d
 
 -- What was looked up is the start's word.
 looked : (c : tie.After-rest-of) → let a = c .before .before .before .before .before .before .before .before .before .before .before in
@@ -45,7 +45,7 @@ looked : (c : tie.After-rest-of) → let a = c .before .before .before .before .
 unfolding sheetOf
 looked c =
     let a = c .before .before .before .before .before .before .before .before .before .before .before in
-    start-rest (a .pre .framed .axes) _ (a .pre .ready .origin) (omega (arith, c .before .before .if1 .left)) (now (a .args .table)) _ _ (a .pre .ready .table) (c .before .before .before .before .before .before .before .fill .ensures) (c .rest-of .ensures)
+    start-rest (a .pre .framed .axes) _ (a .pre .ready .readable) (omega (arith, c .before .before .if1 .left)) (now (a .args .table)) _ _ (a .pre .ready .table) (c .before .before .before .before .before .before .before .fill .ensures) (c .rest-of .ensures)
 
 cast-if2 : tie.Need-cast-if2
 cast-if2 c = search needs
@@ -53,7 +53,7 @@ cast-if2 c = search needs
 add-if2 : tie.Need-add-if2
 add-if2 c =
     let a = c .before .before .before .before .before .before .before .before .before .before .before .before .before in
-    omega (arith, looked (c .before .before), least-bounded (sheet a) (a .pre .framed .axes .ranges) ((sheet a) .jobs - a .args .start .done) (stateOf (a .args .start)), a .pre .ready .origin .range .time)
+    omega (arith, looked (c .before .before), least-bounded (sheet a) (a .pre .framed .axes .ranges) ((sheet a) .jobs - a .args .start .done) (stateOf (a .args .start)), a .pre .ready .readable .range .time)
 
 same-length-2 : tie.Need-same-length-2
 same-length-2 c = search needs
@@ -71,7 +71,7 @@ walk-requires c κs =
       framed = a .pre .framed;
       room = omega (arith, w .table, c .before .before .before .before .before .before .before .before .before .before .before .before .fill .kept .1 .1 .1 .0);
       words = λ i. rw (c .before .before .before .before .before .before .before .before .before .before .before .before .fill .ensures) (filled-words (sheet a) (now (a .args .table)) i (w .table));
-      starts = starts _ (a .pre .framed .axes .ranges) (w .origin) (omega (arith, c .before .before .before .before .before .before .before .if1 .left)) (looked (c .before .before .before .before .before)) (omega (arith, c .before .before .if2 .left));
+      starts = starts _ (a .pre .framed .axes .ranges) (w .readable) (omega (arith, c .before .before .before .before .before .before .before .if1 .left)) (looked (c .before .before .before .before .before)) (omega (arith, c .before .before .if2 .left));
       long = w .part;
     }
 

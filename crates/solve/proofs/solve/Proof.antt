@@ -29,7 +29,7 @@ begun : (c : tie.After-steady-states) → let a = c .before .before .before in
 unfolding sheetOf
 begun c =
     let a = c .before .before .before in
-    let w = a .pre .ready .origin in
+    let w = a .pre .ready .readable in
     let ok = a .pre .axes .ranges in
     record {
       sheet = sheet a;
@@ -59,7 +59,7 @@ unfolding sheetOf
 run-levels-requires c κs = let a = c .before .before .before .before .before .before .before .before .before .before .before .before .before .before .before .before .before in
     let ok = a .pre .axes .ranges in
     let w = a .pre .ready in
-    let levels = plan-levels _ _ _ _ _ _ _ _ (c .before .before .before .before .before .before .before .before .before .find-plan .ensures) ok (omega (arith, w .origin .done)) (w .origin) (c .before .before .before .before .if1 .taken) in
+    let levels = plan-levels _ _ _ _ _ _ _ _ (c .before .before .before .before .before .before .before .before .before .find-plan .ensures) ok (omega (arith, w .readable .done)) (w .peak) (c .before .before .before .before .if1 .taken) in
     record {
       begun = begun (c .before .before .before .before .before .before .before .before .before .before .before .before .before .before);
       long = omega (arith, w .part, c .before .before .before .before .before .before .before .before .before .find-plan .kept .1 .1 .1 .1 .1 .0);
@@ -78,7 +78,7 @@ same-length-2 c = search needs
 returns : tie.Need-returns
 unfolding sheetOf
 returns c = let a = c .before .before .before .before .before .before .before .before .before .before .before .before .before .before .before .before .before .before .before in
-    answers-plan _ _ _ _ _ _ _ _ (c .before .before .before .before .before .before .before .before .before .before .before .find-plan .ensures) (a .pre .axes .ranges) (omega (arith, a .pre .ready .origin .done)) (a .pre .ready .origin) (c .before .before .before .before .before .before .if1 .taken) _ _ (c .before .run-levels .ensures (sheet a) (a .pre .axes .ranges) (framed (c .before .before .before .before .before .before .before .before .before .before .before .before .before .before .before .before) .stored)) (c .planned .ensures)
+    answers-plan _ _ _ _ _ _ _ _ (c .before .before .before .before .before .before .before .before .before .before .before .find-plan .ensures) (a .pre .axes .ranges) (omega (arith, a .pre .ready .readable .done)) (a .pre .ready .peak) (c .before .before .before .before .before .before .if1 .taken) _ _ (c .before .run-levels .ensures (sheet a) (a .pre .axes .ranges) (framed (c .before .before .before .before .before .before .before .before .before .before .before .before .before .before .before .before) .stored)) (c .planned .ensures)
 
 refuse-requires : tie.Need-refuse-requires
 refuse-requires c κs = search needs
