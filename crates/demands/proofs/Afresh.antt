@@ -148,7 +148,7 @@ module _ (s : Sheet) (ok : Ranges s) (a : State) (new : a.peak ≡ 0) (n : ℕ) 
           found = f;
           past = past-holds ok new f;
           kept = kept-first ok new f;
-        kept-afresh = kept-again ok new f;
+          kept-afresh = kept-again ok new f;
         }
 
     on-readable : Readable s a → Answers (foundFrom s a) words words' bytes bytes' r → holds

@@ -16,12 +16,13 @@ use Rattle.reply.specs.declared.Reply.{Reply}
 use Rattle.reply.specs.Answer.{refusedReply}
 use Rattle.demands.specs.Demands.{Enough, Memory, Demand3}
 
--- None of the refusals before 10 applies: "the part gets only the remaining levels (9 is judged by their count, at least 0)".
+-- None of the refusals before 10 applies.
 abbrev pub Passed : Sheet → State → ℕ → ℕ → Type 0
 Passed s a words bytes = Enough s (jobsLeft s a) words bytes × Readable s a
 
 -- The demands on what is answered from a reading a, on a sheet that passes 1 to 6.
 pub record LeftDemands (s : Sheet) (a : State) (words bytes : ℕ) (part : List ℕ) (r : Reply) : Type 0 where
+  -- "the part gets only the remaining levels (9 is judged by their count, at least 0)"
   pub memory : Memory s (jobsLeft s a) words bytes r
   -- "13 where jobs done is m or more"
   pub thirteen : (r .refusal ≡ 13) ↔ (Enough s (jobsLeft s a) words bytes × (s.jobs ≤ a.done))

@@ -96,7 +96,7 @@ module _ (s : Sheet) (ok : Ranges s) where
       record {
         level = l;
         time = keeps-soon s n a s.deadline js some w;
-        energy = elim (decLe a.energy s.energyBudget) [ | yes h ↦ h | no h ↦ absurd (spent-keeps n some a cool js (omega arith) w) ];
+        energy = elim (decLe a.energy s.energyBudget) [ yes h ↦ h | no h ↦ absurd (spent-keeps n some a cool js (omega arith) w) ];
         temperature = t;
       }
 

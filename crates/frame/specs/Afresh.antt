@@ -1,5 +1,5 @@
 -- Planning afresh after a job (document 02, W1): what is read, the limits of demand 3 for the jobs still to do, and what it means
--- that the first plan was kept so far.
+-- that a plan was kept so far.
 -- Assumes nothing.
 use mathlib.Core.Path.{_≡_}
 use mathlib.Core.List.{List}
