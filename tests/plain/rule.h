@@ -43,7 +43,8 @@ static inline struct plain_state plain_state_read(const struct plain_reading *re
 
 static inline struct plain_state plain_start(const struct plain_frame *frame)
 {
-    return (struct plain_state){frame->start_level, 0, 0, frame->start_temperature};
+    const struct plain_reading first = plain_first_reading(frame);
+    return plain_state_read(&first);
 }
 
 // A job at a level, from a state on, without steps: its time, its energy and its temperature, each together with the state's.
