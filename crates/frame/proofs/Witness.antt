@@ -10,6 +10,7 @@ use lib.Dec.{leb}
 use borrow.Author.Tests.{le-leb}
 use lib.ListN.{getD, List·getD-eq-default}
 use Rattle.thermal.specs.Thermal.{steadyState}
+use Rattle.thermal.proofs.Steady.{steady-within}
 use Rattle.frame.specs.Sheet.{Sheet, Ranges, steadyOf}
 use Rattle.frame.specs.Cases.{entry, printedL, printedS, printedB, sheet}
 
@@ -37,10 +38,7 @@ abbrev printed : Sheet
 printed = sheet 50 100 2500 10 100
 
 steady-most : (j : ℕ) → steadyOf printed j ≤ 20000
-unfolding steadyState
-steady-most zero = omega arith
-steady-most (suc zero) = omega arith
-steady-most (suc (suc j)) = omega arith
+steady-most j = steady-within (printed .power j) 2000 20000 (omega (arith, getD-most 20000 printedL j (omega arith)))
 
 stay : (p : ℕ) → (printed .changeTime p p ≡ 0) × (printed .changeEnergy p p ≡ 0)
 stay zero = (refl, refl)
@@ -168,7 +166,6 @@ bottom =
     }
 
 pub bottom-ranges : Ranges bottom
-unfolding steadyState
 bottom-ranges =
     record {
       jobs = omega arith;
@@ -182,7 +179,7 @@ bottom-ranges =
       energyStep = omega arith;
       temperatureStep = omega arith;
       power = λ j. omega arith;
-      steady = λ j. omega arith;
+      steady = λ j. steady-within 0 0 20000 (omega arith);
       changeTime = λ a b. omega arith;
       changeEnergy = λ a b. omega arith;
       stay = λ a. (refl, refl);

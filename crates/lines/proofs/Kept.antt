@@ -12,6 +12,7 @@ use borrow.Author.Tests.{ltb-false, eq-eqb, ne-eqb}
 use Rattle.store.specs.Store.{levelsMax, worksMax, powers, changeTimes, changeEnergies, jobTimes, jobEnergies, decays, storeSize}
 use Rattle.text.specs.Text.{until, beyond, ahead}
 use Rattle.thermal.specs.Thermal.{steadyState}
+use Rattle.thermal.proofs.Steady.{steady-within}
 use Rattle.fields.specs.Fields.{Fields, fieldsOf}
 use Rattle.fields.specs.declared.Fault.the-variants.{Sound}
 use Rattle.fields.proofs.Within.{faulty, shapeless, fields-held, cond-cases}
@@ -162,8 +163,7 @@ pub record Fits (resistance k v : ℕ) : Type 0 where
 
 -- Every place takes 0.
 pub fits-zero : (resistance k : ℕ) → Fits resistance k 0
-unfolding steadyState
-fits-zero resistance k = omega arith
+fits-zero resistance k = omega (arith, steady-within 0 resistance temperatureMax (omega arith))
 
 module _ (resistance : ℕ) where
   -- The line of level j.

@@ -1,17 +1,11 @@
--- Laws of the thermal model. What lies above this crate knows the thermal rule by these alone; the worked cases compute with
--- its text.
+-- Laws of the thermal rule. What lies above this crate knows the rule by these alone; the worked cases compute with its text.
 -- Assumes nothing.
 use mathlib.Core.Path.{_≡_}
 use Prim.Native.Nat.{ℕ, _+_, _*_, _-_, _≤_, _<_, max}
 use native.Mathlib.Nat.{mul-le-mul-left, mul-le-mul-right, le-max-left, le-max-right}
 use native.Mathlib.Omega.{arith}
 use Rattle.thermal.specs.Rounding.{ceilDiv}
-use Rattle.thermal.specs.Thermal.{steadyState, temperatureAfter, RuleDomain, raisedTemperatureMax}
-
--- The steady-state temperature r is nearest to P × R / 10,000, an exact half upwards: r - 1/2 ≤ P × R / 10,000 < r + 1/2.
-pub steady-nearest : (p r : ℕ) → (10000 * steadyState p r ≤ p * r + 5000) × (p * r < 10000 * steadyState p r + 5000)
-unfolding steadyState
-steady-nearest p r = omega arith
+use Rattle.thermal.specs.Thermal.{temperatureAfter, RuleDomain, raisedTemperatureMax}
 
 -- Monotone in the temperature.
 pub rule-mono : (t u s d : ℕ) → t ≤ u → temperatureAfter t s d ≤ temperatureAfter u s d
