@@ -1,7 +1,7 @@
 -- The worked cases of document 01 ('One sheet, whole' and 'Near the mark, but wrong') as rows of one list: the printed sheet
--- with the named fields changed, and the answer that document 01 prints. `proofs/Cases.antt` shows that the definitions give
--- each of them. Every starred case is here; after them come cases that pin what the starred ones leave open, some of document
--- 01's own and some worked by hand.
+-- with the named fields changed, and the answer that document 01 prints, or document 02 where that changes it. `proofs/Cases.antt`
+-- shows that the definitions give each of them. Every starred case is here; after them come cases that pin what the starred ones
+-- leave open, some of the documents' own and some worked by hand.
 -- Assumes nothing.
 use mathlib.Core.List.{List, [], _∷_}
 use Prim.Native.Nat.{ℕ, _+_, _*_}
@@ -87,6 +87,10 @@ cooling =
     ((0 ∷ 0 ∷ []) ∷ [])
     ((30 ∷ 20 ∷ 32768 ∷ []) ∷ [])
 
+-- A sheet of our own whose one job, of decay 0, ends at the steady-state temperature of power P and resistance R.
+abbrev pub steady : ℕ → ℕ → ℕ → Sheet
+steady P R C = sheetFrom (1 ∷ 1 ∷ 0 ∷ 30 ∷ 20 ∷ C ∷ 0 ∷ R ∷ 1 ∷ 1 ∷ []) (P ∷ []) ((0 ∷ 0 ∷ []) ∷ []) ((30 ∷ 20 ∷ 0 ∷ []) ∷ [])
+
 -- A sheet of our own with three jobs and three levels, on which no change is like its way back and no figure of a kind like
 -- another; the first job may change level.
 abbrev pub unequal : ℕ → ℕ → ℕ → Sheet
@@ -165,8 +169,12 @@ cases T s =
     ∷ same (sheet 50 76 2500 1 100)
     -- "Levels 0, 1 measured: margins 3, 37, −250."
     ∷ measures (sheet 50 100 2500 10 100) (0 ∷ 1 ∷ []) (pos 3) (pos 37) (negℤ (pos 250))
-    -- "Steady rise for 1,500 and 1,830: 274.5 gives 275."
-    ∷ gives (steadyState 1500 1830) 275
+    -- document 02, W2: "The starred case of 275 changes", that of 1,500 and 1,830: "274.5 becomes 274 and 275.5 becomes 276"
+    ∷ gives (steadyState 1500 1830) 274
+    ∷ gives (steadyState 1450 1900) 276
+    -- W2: "20,000.5 is now lawful"; by hand: 20,001.5 is not
+    ∷ gives (steadyState 40001 5000) 20000
+    ∷ gives (steadyState 40003 5000) 20002
     -- "Decay 1, T 1, steady rise 0: 1. Decay 65,536: T."
     ∷ gives (temperatureAfter 1 0 1) 1
     ∷ gives (temperatureAfter T s 65536) T
@@ -231,4 +239,9 @@ cases T s =
     ∷ gives ((ranTo (sheet 50 100 2500 10 100) (start (sheet 50 100 2500 10 100)) (1 ∷ 0 ∷ []) 0) .level) 0
     ∷ gives ((ranTo (sheet 50 100 2500 10 100) (start (sheet 50 100 2500 10 100)) (1 ∷ 0 ∷ []) 1) .level) 1
     ∷ gives ((ranTo (sheet 50 100 2500 10 100) (start (sheet 50 100 2500 10 100)) (1 ∷ 0 ∷ []) 1) .energy) 48
+    -- W2: "plans are compared under the new rise"; by hand: 274.5 meets a limit of 274, and 275.5 breaks one of 275
+    ∷ plans (steady 1500 1830 274) (0 ∷ []) 30 20 274
+    ∷ refuses (steady 1500 1830 273) 10
+    ∷ plans (steady 1450 1900 276) (0 ∷ []) 30 20 276
+    ∷ refuses (steady 1450 1900 275) 10
     ∷ []

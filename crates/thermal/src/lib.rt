@@ -5,7 +5,10 @@ ghost use Rattle.thermal.specs.Thermal.{steadyState, temperatureAfter, R
 pub fn steady_state(power: u32, resistance: u32) -> u64
     ensures { λ r. ⌜ r ≡ steadyState power resistance ⌝ }
 {
-    (power as u64 * resistance as u64 + 5_000) / 10_000
+    let product = power as u64 * resistance as u64;
+    let upper = product / 10_000 + 1;
+    // One less where the upper neighbour is odd: an exact half then goes to the lower one, and no other number does.
+    (product + 5_000 - upper % 2) / 10_000
 }
 
 // The temperature after a job that starts at `temperature`, at a level of steady-state temperature `steady`. An inner
