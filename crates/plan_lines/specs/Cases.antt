@@ -2,15 +2,10 @@
 -- each of them.
 -- Assumes nothing.
 use mathlib.Core.List.{List, [], _∷_}
-use Prim.Native.Char.{code}
 use Prim.Native.Nat.{ℕ}
-use Prim.Native.String.{String, [] as nothing, _∷_ as _then_}
+use Prim.Native.String.{String}
+use Rattle.text.specs.Bytes.{bytesOf}
 use Rattle.plan_lines.specs.Lines.{planLine, jobLine, refusalLine}
-
--- The bytes of a text.
-abbrev pub bytesOf : String → List ℕ
-bytesOf nothing = []
-bytesOf (c then s) = code c ∷ bytesOf s
 
 -- A line by the definitions, and as it is printed.
 pub record Case : Type 0 where

@@ -1,3 +1,4 @@
+pub mod Cases
 pub mod Sheet
 pub mod Whole
 pub mod Ranges
