@@ -1,7 +1,7 @@
 """Writes what the program `cases` is run on (crates/cases/stdin) and what it must print (crates/cases/stdout).
 
-The answers come from a reader, a run and a planner of their own, written from document 01 and request W1 and not from the
-proved code. Run it from the repository's top: python3 tests/cases.py
+The answers come from a reader, a run and a planner of their own, written from document 01 and requests W1 and W2 and not from
+the proved code. Run it from the repository's top: python3 tests/cases.py
 
 A reading is jobs done, present level, elapsed time, energy spent and temperature.
 """
@@ -41,7 +41,9 @@ def number(field):
 
 
 def steady(power, resistance):
-    return (2 * power * resistance + 10000) // 20000
+    """To the nearest whole number, an exact half to the even one."""
+    below = power * resistance // 10000
+    return min(below, below + 1, key=lambda whole: (abs(10000 * whole - power * resistance), whole % 2))
 
 
 class Reader:

@@ -1,6 +1,7 @@
-// A job by document 01's rules, and the table's words. They stand inline, as the fill does nothing else for every word and level.
-// 32 bits hold all figures: times and energies of a run are at most 64 * 20,000,000 above a reading of 2,000,000,000, a state
-// within the limits is raised to below 4,000,000,000, and no temperature is above 40,000.
+// A job by the rules of document 01 and request W2, and the table's words. They stand inline, as the fill does nothing else for
+// every word and level. 32 bits hold all figures: power times resistance is at most 2,000,000,000, times and energies of a run
+// are at most 64 * 20,000,000 above a reading of 2,000,000,000, a state within the limits is raised to below 4,000,000,000, and
+// no temperature of a run is above 40,000.
 #ifndef RULE_H
 #define RULE_H
 
@@ -23,10 +24,11 @@ static inline uint32_t plain_divide_up(uint32_t number, uint32_t by)
     return (number + by - 1) / by;
 }
 
-// To the nearest whole number, an exact half upwards.
+// To the nearest whole number, an exact half to the even one.
 static inline uint32_t plain_steady_state(uint32_t power, uint32_t resistance)
 {
-    return (power * resistance + 5000) / 10000;
+    uint32_t whole = power * resistance / 10000, rest = power * resistance % 10000;
+    return rest > 5000 || (rest == 5000 && whole % 2 == 1) ? whole + 1 : whole;
 }
 
 // What is read before the first job: the sheet's start.
