@@ -331,7 +331,10 @@ def edges():
     for note, line, field, low, high, sheet in places:
         for value in sorted({low - 1, low, high, high + 1} - {-1}):
             yield "%s %d" % (note, value), changed(line, field, value, sheet), (0, 1)
-    for power, resistance in ((20000, 10000), (20001, 10000), (40001, 5000), (50001, 4000)):
+    # exactly 20000, 20001, 20000.5, 20000.4, 19999.5, 20000.4997, 20000.5001, 20001.5, 200000
+    rises = (20000, 10000), (20001, 10000), (40001, 5000), (50001, 4000)
+    rises += (39999, 5000), (17291, 11567), (49889, 4009), (40003, 5000), (100000, 20000)
+    for power, resistance in rises:
         yield "steady rise of P %d, R %d" % (power, resistance), changed(4, 2, power, changed(2, 9, resistance)), (0, 1)
 
 
@@ -366,7 +369,8 @@ def lines():
 
 
 def planned():
-    """The list of document 01, the borders of lent memory, and 64 jobs: with the words and bytes lent and the answer, as printed there."""
+    """The list of document 01, changed as request W2 says, the borders of lent memory, and 64 jobs: with the words and bytes lent
+    and the answer, as printed there."""
     same, slow = ((1, 0), 49, 76, 2250), ((0, 0), 58, 45, 1750)
     for note, sheet, want in (
         ("D 49", with_head(SHEET, D=49), same),
@@ -383,7 +387,8 @@ def planned():
         ("start 2501", with_head(SHEET, start=2501), (5, 2, 8)),
     ):
         yield note, sheet, (1, 0), WORDS, BYTES, want
-    yield "steady rise of P 1500, R 1830", one_job(1500, 1830, 0, 0), (0,), WORDS, BYTES, ((0,), 1, 0, 275)
+    yield "steady rise of P 1500, R 1830", one_job(1500, 1830, 0, 0), (0,), WORDS, BYTES, ((0,), 1, 0, 274)
+    yield "steady rise of P 1450, R 1900", one_job(1450, 1900, 0, 0), (0,), WORDS, BYTES, ((0,), 1, 0, 276)
     yield "decay 1, T 1, steady rise 0", one_job(0, 0, 1, 1), (0,), WORDS, BYTES, ((0,), 1, 0, 1)
     yield "decay 65536, T 1234", one_job(10000, 2000, 1234, 65536), (0,), WORDS, BYTES, ((0,), 1, 0, 1234)
     yield "two equal levels, free changes", full(1, 2, b"a", 1, 0), (1,), WORDS, BYTES, ((0,), 1, 0, 20000)
@@ -407,6 +412,58 @@ def planned():
     levels = tuple(Frame(frame).plan(Frame(frame).start())[1])
     yield "64 jobs", frame, levels, WORDS, BYTES, (levels, 1270, 20, 105)
     yield "64 jobs, bytes 63", frame, levels, WORDS, 63, (9, 0, 0)
+
+
+def rounded_rises():
+    """Steady rises at and next to exact halves: a job of decay 0 ends at its level's, and one above 20000 is out of its range."""
+    for exact, power, resistance, rise in (
+        ("0.4999", 4999, 1, 0),
+        ("0.5", 5000, 1, 0),
+        ("0.5001", 5001, 1, 1),
+        ("1.4999", 14999, 1, 1),
+        ("1.5", 15000, 1, 2),
+        ("2.5", 25000, 1, 2),
+        ("2.5001", 25001, 1, 3),
+        ("3.5", 35000, 1, 4),
+        ("274.4999", 5501, 499, 274),
+        ("274.5002", 2974, 923, 275),
+        ("275.4999", 7849, 351, 275),
+        ("19998.5", 39997, 5000, 19998),
+        ("19999.4998", 27658, 7231, 19999),
+        ("19999.5", 39999, 5000, 20000),
+        ("20000.4997", 17291, 11567, 20000),
+        ("20000.5", 40001, 5000, 20000),
+        ("20000.5001", 49889, 4009, 20001),
+        ("20001.4999", 31267, 6397, 20001),
+        ("20001.5", 40003, 5000, 20002),
+    ):
+        want = ((0,), 1, 0, rise) if rise <= 20000 else (4, 3, 2)
+        yield "steady rise %s: P %d, R %d" % (exact, power, resistance), one_job(power, resistance, 0, 0), (0,), WORDS, BYTES, want
+
+
+def planned_by_halves():
+    """Plans that an exact half decides: 274.5 and 275.5 beside C, and document 01's sheet with halves next to its steady rises."""
+    for power, resistance, limit, want in (
+        (1500, 1830, 274, ((0,), 1, 0, 274)),
+        (1500, 1830, 273, 10),
+        (1450, 1900, 276, ((0,), 1, 0, 276)),
+        (1450, 1900, 275, 10),
+    ):
+        note = "steady rise of P %d, R %d, C %d" % (power, resistance, limit)
+        yield note, with_head(one_job(power, resistance, 0, 0), C=limit), (0,), WORDS, BYTES, want
+    same, warmer, slow = ((1, 0), 49, 76, 2250), ((1, 0), 49, 76, 2251), ((0, 0), 58, 45, 1750)
+    for note, low, high, figures, want in (
+        ("3999.5", 8000, 15998, {}, same),
+        ("4000.5", 8000, 16002, {}, same),
+        ("4001.5, log ends at 2501", 8000, 16006, {}, 10),
+        ("4001.5, C 2501", 8000, 16006, {"C": 2501}, warmer),
+        ("4000.5, D 58", 8000, 16002, {"D": 58}, same),
+        ("4001.5, D 58", 8000, 16006, {"D": 58}, slow),
+        ("2000.5 at level 0", 8002, 16000, {}, same),
+        ("2001.5 at level 0", 8006, 16000, {}, warmer),
+    ):
+        sheet = changed(3, 2, low, changed(4, 2, high, with_head(SHEET, R=2500, **figures)))
+        yield "the sheet, steady rise " + note, sheet, (0, 1), WORDS, BYTES, want
 
 
 def read_after(**figures):
@@ -477,6 +534,7 @@ def read_figures():
     most, free, coarse = 2 * 10**9, full(3, 2, b"a", 10**7, 0), with_head(SHEET, h=1200)
     latest, odd = with_head(SHEET, D=most), with_head(free, g=most - 1)
     hot = changed(8, 4, 32768, with_head(full(2, 1, b"a", 1, 0), start=0, R=0, h=19999))
+    halves = changed(4, 2, 16000, with_head(SHEET, R=2500))
     for note, sheet, reading, want in (
         ("energy 61 is raised to 70, the total is not", SHEET, read_after(energy=61), ((0,), 49, 89, 2250)),
         ("energy 71 leaves enough, raised to 80 it does not", SHEET, read_after(energy=71), 10),
@@ -494,6 +552,8 @@ def read_figures():
         ("g 1999999999, energy 1999999999", odd, (1, 1, 0, most - 1, 20000), ((0, 0), 20000000, most - 1, 20000)),
         ("g 1999999999, energy 2000000000", odd, (1, 1, 0, most, 20000), 10),
         ("temperature 20000 is raised to 39998", hot, (1, 0, 0, 0, 20000), ((0,), 1, 0, 10000)),
+        ("steady rise 2000.5", changed(3, 2, 8002, halves), READING, ((0,), 49, 76, 2250)),
+        ("steady rise 2001.5", changed(3, 2, 8006, halves), READING, ((0,), 49, 76, 2251)),
     ):
         yield "afresh, " + note, sheet, WORDS, BYTES, reading, want
 
@@ -534,7 +594,7 @@ def check(cases):
 
 
 def main():
-    from_start = list(planned())
+    from_start = [case for group in (planned, rounded_rises, planned_by_halves) for case in group()]
     afresh = [case for group in (read_borders, read_lent, read_order, read_figures, kept) for case in group()]
     check((note, sheet, words, size, want) for note, sheet, _, words, size, want in from_start)
     check(afresh)
