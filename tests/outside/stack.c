@@ -84,6 +84,7 @@ static bool hold_all(const char *top)
     bool holds = true;
     try_stored(top, "tests/vectors/*.sheet");
     try_stored(top, "tests/vectors/w1/*.sheet");
+    try_stored(top, "tests/vectors/w2/*.sheet");
     try_stored(top, "tests/sheets/*.sheet");
     try_stored(top, "examples/*.sheet");
     try_stored(top, "examples/refused/*.sheet");

@@ -41,6 +41,7 @@ static void check_stored_sheets(const char *top, const char *sheets, size_t coun
 void test_vectors(const char *top)
 {
     check_stored_sheets(top, "tests/vectors/*.sheet", 264);
+    check_stored_sheets(top, "tests/vectors/w2/*.sheet", 60);
 }
 
 // A stored sheet that is refused by 8 for the table inside, and planned with a lent one.
@@ -151,7 +152,7 @@ static void check_changes(const struct sheet *sheet)
 
 void test_changed_sheets(const char *top)
 {
-    static const char *const small[] = {"small-11-3", "damaged-11-1", "damaged-11-61"};
+    static const char *const small[] = {"small-11-3", "damaged-11-1", "damaged-11-61", "w2/halves-22-54"};
     static const char *const large[] = {"large-11-5", "large-11-7"};
     static struct sheet sheet;
     char path[512];
