@@ -251,11 +251,13 @@ static void check_borders(unsigned long number, const struct plain_frame *frame,
 void test_all_lists(const char *top)
 {
     static struct plain_frame frame;
-    unsigned long without_plan[BORDERS] = {0};
+    unsigned long without_plan[BORDERS] = {0}, above_even = 0, above_odd = 0;
     uint64_t seed = 8;
     (void)top;
     for (unsigned long number = 0; number < DRAWN_SHEETS; number++) {
         draw_frame(&seed, JOBS, LEVELS, DRAWN_WORDS, &frame);
+        above_even += has_half(&frame, false);
+        above_odd += has_half(&frame, true);
         if (can_search(&frame))
             check_searched("as drawn", number, &frame);
         check_borders(number, &frame, without_plan);
@@ -263,6 +265,9 @@ void test_all_lists(const char *top)
     check_answered(0, 5 * DRAWN_SHEETS);
     check_answered(NO_PLAN, DRAWN_SHEETS);
     check(tied >= DRAWN_SHEETS, "%lu plans are the first of several fastest lists, expected %d", tied, DRAWN_SHEETS);
+    check(above_even >= DRAWN_SHEETS / 10 && above_odd >= DRAWN_SHEETS / 10,
+          "%lu sheets have an exact half above an even number, %lu above an odd one, expected %d", above_even, above_odd,
+          DRAWN_SHEETS / 10);
     for (size_t i = 0; i < BORDERS; i++)
         check(without_plan[i] >= DRAWN_SHEETS / 8 || !is_below(&borders[i]), "%lu sheets have no plan with the %s",
               without_plan[i], borders[i].name);

@@ -153,15 +153,23 @@ static void draw_changes(uint64_t *seed, struct plain_frame *frame, uint64_t tim
                 frame->change[left][entered] = (struct plain_change){draw(seed, time_below), draw(seed, energy_below)};
 }
 
-// Multiples of 5 at the resistances 500 and 1000, so that many steady states are rounded from an exact half.
+// A number up to the given one, often one of the highest.
+static uint64_t draw_up_to(uint64_t *seed, uint64_t most)
+{
+    uint64_t below = draw(seed, 4) == 0 ? draw(seed, 4) : draw(seed, most + 1);
+    return most - (below < most ? below : most);
+}
+
+// Many steady states are rounded from an exact half: multiples of 5 at the resistances 500 and 1000, odd powers at 5000. The
+// highest may be half above the scale, an even number, and are then rounded down to it.
 static void draw_powers(uint64_t *seed, struct plain_frame *frame, uint64_t temperature_scale)
 {
-    static const uint64_t resistances[] = {0, 1, 500, 777, 1000, 2000, 10000, 20000};
-    frame->resistance = draw_of(seed, resistances, 8);
+    static const uint64_t resistances[] = {0, 1, 500, 777, 1000, 2000, 5000, 5000, 10000, 20000};
+    frame->resistance = draw_of(seed, resistances, 10);
     const uint32_t factor = frame->resistance == 500 || frame->resistance == 1000 ? 5 : 1;
-    uint64_t most = frame->resistance == 0 ? 100000 : temperature_scale * 10000 / frame->resistance;
+    uint64_t most = frame->resistance == 0 ? 100000 : (temperature_scale * 10000 + 5000) / frame->resistance;
     for (uint64_t level = 0; level < frame->levels; level++) {
-        frame->power[level] = draw(seed, (most < 100000 ? most : 100000) / factor + 1) * factor;
+        frame->power[level] = draw_up_to(seed, (most < 100000 ? most : 100000) / factor) * factor;
         frame->steady_state[level] = plain_steady_state(frame->power[level], frame->resistance);
     }
 }
@@ -222,7 +230,7 @@ void draw_frame(uint64_t *seed, uint64_t jobs_max, uint64_t levels_max, uint64_t
 {
     static const uint64_t time_scales[] = {1, 3, 20, 1000, 10000000};
     static const uint64_t energy_scales[] = {0, 2, 9, 50, 10000000};
-    static const uint64_t temperature_scales[] = {0, 6, 40, 3000, 20000};
+    static const uint64_t temperature_scales[] = {0, 6, 40, 3000, 20000}; // all even
     memset(frame, 0, sizeof *frame);
     frame->jobs = 1 + draw(seed, jobs_max);
     frame->levels = 1 + draw(seed, levels_max);
@@ -240,6 +248,14 @@ void draw_frame(uint64_t *seed, uint64_t jobs_max, uint64_t levels_max, uint64_t
     frame->energy_step = draw_step(seed, cells, frame->jobs * energy_scale, FRAME_LIMIT_MAX);
     frame->temperature_step = draw_step(seed, cells, temperature_scale, TEMPERATURE_MAX);
     draw_limits(seed, frame);
+}
+
+bool has_half(const struct plain_frame *frame, bool above_odd)
+{
+    for (uint32_t level = 0; level < frame->levels; level++)
+        if (frame->power[level] * frame->resistance % 20000 == (above_odd ? 15000 : 5000))
+            return true;
+    return false;
 }
 
 void draw_list(uint64_t *seed, const struct plain_frame *frame, uint8_t *levels)
