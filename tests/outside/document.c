@@ -1,4 +1,5 @@
-// The cases that document 01 states, with the figures printed there. None of the expectations comes from the plain planner.
+// The cases that document 01 and request W2 state, with the figures printed there. None of the expectations comes from the plain
+// planner.
 #include "calls.h"
 #include "groups.h"
 #include "sheets.h"
@@ -51,6 +52,23 @@ static const char equal_levels[] = "V\t1\n"
                                    "J\tone\n"
                                    "B\t5\t5\t0\n"
                                    "B\t5\t5\t0\n";
+
+// A job of decay 0, which ends at the steady state of its level.
+static const char one_job[] = "V\t1\n"
+                              "H\t1\t1\t0\t10\t10\t20000\t0\t0\t1\t20000\n"
+                              "L\t0\n"
+                              "S\t0\t0\n"
+                              "J\tone\n"
+                              "B\t5\t5\t0\n";
+
+// Powers and resistances whose steady state is rounded from an exact half, and what `plan` prints.
+static const struct {
+    const char *name, *power, *resistance, *prints;
+} halves[] = {
+    {"274.5", "1500", "1830", "P\t1\t5\t5\t274\nQ\tone\t0\t5\t5\t274\n"},
+    {"275.5", "1450", "1900", "P\t1\t5\t5\t276\nQ\tone\t0\t5\t5\t276\n"},
+    {"20,000.5", "40001", "5000", "P\t1\t5\t5\t20000\nQ\tone\t0\t5\t5\t20000\n"},
+};
 
 static struct sheet sheet;
 
@@ -184,6 +202,18 @@ static void check_lists(void)
     check_measured((const uint8_t[]){2, 9}, 2, (struct begbija_margins){.refusal = 12, .field = 0});
 }
 
+// A steady state rounded from each of the halves that are named.
+static void check_halves(void)
+{
+    for (size_t i = 0; i < sizeof halves / sizeof halves[0]; i++) {
+        set_text(&sheet, one_job);
+        set_name(&sheet, "steady state %s", halves[i].name);
+        set_field(&sheet, 2, 9, halves[i].resistance);
+        set_field(&sheet, 3, 2, halves[i].power);
+        check_prints(halves[i].prints);
+    }
+}
+
 void test_document(const char *top)
 {
     (void)top;
@@ -206,4 +236,5 @@ void test_document(const char *top)
     check_words(1144, 0);
     check_words(1143, -8);
     check_lists();
+    check_halves();
 }
