@@ -186,18 +186,60 @@ static void fill_below_limit(const struct plain_table *table)
         memset(table->words, 0xFF, plain_need(table) * sizeof *table->words); // nothing is below 0
 }
 
-// Plans once more by such a table.
+// Plans once more by a table that is filled otherwise.
+static int64_t plan_by_table(const struct plain_table *table, uint8_t *levels, const uint8_t *before, struct begbija_reply *reply)
+{
+    const struct plain_frame *frame = table->frame;
+    const struct plain_reading first = plain_first_reading(frame);
+    if (*plain_word(table, 0, plain_start(frame)) > frame->deadline)
+        return reply_none(frame->jobs, levels, before, reply);
+    plain_walk(table, &first, levels);
+    return reply_plan(frame, &first, levels, reply);
+}
+
 static int64_t plan_below_limit(const uint8_t *sheet, size_t sheet_len, uint32_t *words, uint8_t *levels, const uint8_t *before,
                                 struct begbija_reply *reply)
 {
-    const struct plain_frame *frame = &answer_again(sheet, sheet_len, false)->frame;
-    const struct plain_table table = plain_table_of(frame, words);
-    const struct plain_reading first = plain_first_reading(frame);
+    const struct plain_table table = plain_table_of(&answer_again(sheet, sheet_len, false)->frame, words);
     fill_below_limit(&table);
-    if (*plain_word(&table, 0, plain_start(frame)) > frame->deadline)
-        return reply_none(frame->jobs, levels, before, reply);
-    plain_walk(&table, &first, levels);
-    return reply_plan(frame, &first, levels, reply);
+    return plan_by_table(&table, levels, before, reply);
+}
+
+// Rounds an exact half wrongly; any other steady state is the one due.
+static uint32_t harm_half(uint32_t product, uint32_t due)
+{
+    const uint32_t below = product / 10000;
+    if (product % 10000 != 5000)
+        return due;
+    if (is("half upwards"))
+        return below + 1;
+    if (is("half downwards"))
+        return below;
+    return is("half to the odd one") ? below | 1 : due;
+}
+
+// Gives a frame wrong steady states; the line of the first power that is then out of its range, or 0.
+static unsigned harm_steady_states(struct plain_frame *frame)
+{
+    const bool unrounded = is("range tested before rounding");
+    unsigned line = 0;
+    for (uint32_t level = frame->levels; level > 0; level--) {
+        const uint32_t product = frame->power[level - 1] * frame->resistance;
+        uint32_t *steady_state = &frame->steady_state[level - 1];
+        *steady_state = harm_half(product, *steady_state);
+        if (*steady_state > TEMPERATURE_MAX || (unrounded && product > TEMPERATURE_MAX * 10000))
+            line = level + 2;
+    }
+    return line;
+}
+
+// Plans once more by a frame with other steady states.
+static int64_t plan_by_frame(const struct plain_frame *frame, uint32_t *words, uint8_t *levels, const uint8_t *before,
+                             struct begbija_reply *reply)
+{
+    const struct plain_table table = plain_table_of(frame, words);
+    plain_fill(&table);
+    return plan_by_table(&table, levels, before, reply);
 }
 
 // Follows a filled table once more, and takes the highest of the levels that take the least time.
@@ -252,11 +294,20 @@ int64_t __wrap_begbija_plan(const uint8_t *sheet, size_t sheet_len, uint32_t *ta
     memcpy(before, levels, levels_len < JOBS_MAX ? levels_len : JOBS_MAX);
     if (is("largest need refused") && table_len == TABLE_WORDS_MAX)
         return reply_refusal(7, reply);
+    const struct plain_answer *answer = answer_again(sheet, sheet_len, false);
+    struct plain_frame harmed = answer->frame;
+    const unsigned line = plain_refused(answer) ? 0 : harm_steady_states(&harmed);
+    if (line > 0) {
+        *reply = (struct begbija_reply){.refusal = 4, .line = line, .field = 2};
+        return -4;
+    }
     int64_t result = __real_begbija_plan(sheet, sheet_len, table, table_len, levels, levels_len, reply);
     if (result == 0 || result == -10) {
         harm_table(sheet, sheet_len, table, table_len);
         if (is("end at the temperature limit refused in the fill"))
             return plan_below_limit(sheet, sheet_len, table, levels, before, reply);
+        if (memcmp(harmed.steady_state, answer->frame.steady_state, sizeof harmed.steady_state) != 0)
+            return plan_by_frame(&harmed, table, levels, before, reply);
     }
     if (result == 0 && is("last of equals in the walk"))
         return walk_to_last(sheet, sheet_len, table, levels, reply);

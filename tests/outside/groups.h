@@ -12,6 +12,7 @@ void test_largest_table(const char *top);
 void test_needs(const char *top);
 void test_measured_lists(const char *top);
 void test_document(const char *top);
+void test_halves(const char *top);
 void test_all_lists(const char *top);
 void test_all_lists_afresh(const char *top);
 void test_planned_afresh(const char *top);

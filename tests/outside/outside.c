@@ -20,6 +20,7 @@ static const struct {
     {"needs", test_needs},
     {"measured lists", test_measured_lists},
     {"document 01", test_document},
+    {"halves", test_halves},
     {"all lists", test_all_lists},
     {"all lists afresh", test_all_lists_afresh},
     {"planned afresh", test_planned_afresh},
