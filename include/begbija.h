@@ -15,8 +15,8 @@
  * Units: times in microseconds, energies in microjoules, temperatures in hundredths of a kelvin above the rock at the logger.
  * Lengths count elements: bytes of a sheet, a text or a list of levels, words of a table.
  *
- * Every call takes any bytes as a sheet, any figures as readings and memory of any length, and always returns. The calls keep no state, allocate nothing,
- * and call nothing but memcpy and memset. They may run at once, on any number of threads, also on one sheet.
+ * Every call takes any bytes as a sheet, any figures as readings and memory of any length, and always returns. The calls keep no
+ * state, allocate nothing, and call nothing but memcpy and memset. They may run at once, on any number of threads, also on one sheet.
  *
  * What the caller owes, here as for any C function: each pointer is not null, also where the length is 0, and points to that
  * many bytes or words, or to one struct; a table is aligned for uint32_t, a struct for its type; while the call runs, nothing
@@ -43,9 +43,12 @@
 extern "C" {
 #endif
 
-/* The version of this interface, as one number to compare with: 1.2.3 would be 10203. */
-#define BEGBIJA_VERSION_MAJOR 1
-#define BEGBIJA_VERSION_MINOR 1
+/*
+ * The version of this interface, as one number to compare with: 1.2.3 would be 10203. From 2.0.0 on an exact half of a steady-state
+ * temperature goes to the even number; before, it went upwards.
+ */
+#define BEGBIJA_VERSION_MAJOR 2
+#define BEGBIJA_VERSION_MINOR 0
 #define BEGBIJA_VERSION_PATCH 0
 #define BEGBIJA_VERSION (BEGBIJA_VERSION_MAJOR * 10000 + BEGBIJA_VERSION_MINOR * 100 + BEGBIJA_VERSION_PATCH)
 

@@ -5,7 +5,7 @@
 #include <begbija.h>
 
 // A version can be tested before the program is compiled, and is what its parts say.
-#if BEGBIJA_VERSION < 10100 || BEGBIJA_VERSION / 10000 != BEGBIJA_VERSION_MAJOR \
+#if BEGBIJA_VERSION < 20000 || BEGBIJA_VERSION / 10000 != BEGBIJA_VERSION_MAJOR \
     || BEGBIJA_VERSION / 100 % 100 != BEGBIJA_VERSION_MINOR || BEGBIJA_VERSION % 100 != BEGBIJA_VERSION_PATCH
 #error "BEGBIJA_VERSION is not made of its parts"
 #endif
