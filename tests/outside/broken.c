@@ -197,6 +197,7 @@ static int64_t plan_by_table(const struct plain_table *table, uint8_t *levels, c
     return reply_plan(frame, &first, levels, reply);
 }
 
+// By a table in which nothing may end at the temperature limit.
 static int64_t plan_below_limit(const uint8_t *sheet, size_t sheet_len, uint32_t *words, uint8_t *levels, const uint8_t *before,
                                 struct begbija_reply *reply)
 {
@@ -208,8 +209,8 @@ static int64_t plan_below_limit(const uint8_t *sheet, size_t sheet_len, uint32_t
 // Rounds an exact half wrongly; any other steady state is the one due.
 static uint32_t harm_half(uint32_t product, uint32_t due)
 {
-    const uint32_t below = product / 10000;
-    if (product % 10000 != 5000)
+    const uint32_t below = product / STEADY_STATE_UNIT;
+    if (product % STEADY_STATE_UNIT != STEADY_STATE_UNIT / 2)
         return due;
     if (is("half upwards"))
         return below + 1;
@@ -227,7 +228,7 @@ static unsigned harm_steady_states(struct plain_frame *frame)
         const uint32_t product = frame->power[level - 1] * frame->resistance;
         uint32_t *steady_state = &frame->steady_state[level - 1];
         *steady_state = harm_half(product, *steady_state);
-        if (*steady_state > TEMPERATURE_MAX || (unrounded && product > TEMPERATURE_MAX * 10000))
+        if (*steady_state > TEMPERATURE_MAX || (unrounded && product > TEMPERATURE_MAX * STEADY_STATE_UNIT))
             line = level + 2;
     }
     return line;

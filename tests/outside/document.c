@@ -1,5 +1,5 @@
-// The cases that document 01 and request W2 state, with the figures printed there. None of the expectations comes from the plain
-// planner.
+// The cases that document 01 and request W2 state, with the figures printed there or worked by hand. None of the expectations comes
+// from the plain planner.
 #include "calls.h"
 #include "groups.h"
 #include "sheets.h"
@@ -203,7 +203,7 @@ static void check_lists(void)
     check_measured((const uint8_t[]){2, 9}, 2, (struct begbija_margins){.refusal = 12, .field = 0});
 }
 
-// A steady state rounded from each of the halves that are named.
+// Sheets whose one steady state is an exact half before it is rounded.
 static void check_halves(void)
 {
     for (size_t i = 0; i < sizeof halves / sizeof halves[0]; i++) {

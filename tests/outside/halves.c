@@ -1,5 +1,5 @@
-// Steady-state temperatures at exact halves and around them, which the library tells by the end of a job of decay 0. They are
-// those of the plain planner, which are held to the words of document 01 and request W2 by distances.
+// Steady-state temperatures at exact halves and around them. The library shows a level's as the end of a job of decay 0. It has to
+// be the plain planner's, which is held to the words of request W2 by distances.
 #include "calls.h"
 #include "groups.h"
 #include "rule.h"
@@ -10,8 +10,6 @@
 #include <stdlib.h>
 
 enum {
-    UNIT = 10000, // power times resistance for a steady state of 1
-    POWER_MAX = 100000,
     RESISTANCE_MAX = 20000,
     TABLE_WORDS = 2,
     RANGE = 4 // the refusal's number
@@ -41,7 +39,7 @@ static void write_one_job(uint32_t power, uint32_t resistance, uint32_t temperat
 // How far a whole number is from the steady state before it is rounded, in ten-thousandths.
 static int64_t distance(int64_t number, uint32_t power, uint32_t resistance)
 {
-    return llabs(number * UNIT - (int64_t)power * resistance);
+    return llabs(number * STEADY_STATE_UNIT - (int64_t)power * resistance);
 }
 
 // Whether no whole number is nearer, and of two as near it is the even one.
@@ -81,7 +79,7 @@ static void check_powers(uint32_t resistance, uint32_t most)
 // The last power that is at most half above the range, and the next one, where they can be written.
 static void check_range_end(uint32_t resistance)
 {
-    uint32_t last = (TEMPERATURE_MAX * UNIT + UNIT / 2) / resistance;
+    uint32_t last = (TEMPERATURE_MAX * STEADY_STATE_UNIT + STEADY_STATE_UNIT / 2) / resistance;
     for (uint32_t power = last; power <= last + 1 && power <= POWER_MAX; power++)
         check_power(power, resistance);
 }
@@ -90,8 +88,8 @@ static void check_range_end(uint32_t resistance)
 // odd numbers.
 static uint32_t least_for_half(uint32_t resistance)
 {
-    for (uint32_t power = 1; power <= UNIT / 2; power++)
-        if (power * resistance % UNIT == UNIT / 2)
+    for (uint32_t power = 1; power <= STEADY_STATE_UNIT / 2; power++)
+        if (power * resistance % STEADY_STATE_UNIT == STEADY_STATE_UNIT / 2)
             return power;
     return 0;
 }
@@ -120,7 +118,7 @@ static void check_limits(uint32_t power, uint32_t resistance)
     }
 }
 
-// Resistance 1 leads to every rest of a division by 10,000, above even and odd numbers; 5,000 to every half of the range.
+// Resistance 1 leads to every remainder, above even and odd numbers; 5,000 to every half of the range.
 void test_halves(const char *top)
 {
     uint64_t seed = 10;

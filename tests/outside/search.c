@@ -256,17 +256,18 @@ void test_all_lists(const char *top)
     (void)top;
     for (unsigned long number = 0; number < DRAWN_SHEETS; number++) {
         draw_frame(&seed, JOBS, LEVELS, DRAWN_WORDS, &frame);
-        above_even += has_half(&frame, false);
-        above_odd += has_half(&frame, true);
-        if (can_search(&frame))
+        if (can_search(&frame)) {
             check_searched("as drawn", number, &frame);
+            above_even += has_half(&frame, false);
+            above_odd += has_half(&frame, true);
+        }
         check_borders(number, &frame, without_plan);
     }
     check_answered(0, 5 * DRAWN_SHEETS);
     check_answered(NO_PLAN, DRAWN_SHEETS);
     check(tied >= DRAWN_SHEETS, "%lu plans are the first of several fastest lists, expected %d", tied, DRAWN_SHEETS);
     check(above_even >= DRAWN_SHEETS / 10 && above_odd >= DRAWN_SHEETS / 10,
-          "%lu sheets have an exact half above an even number, %lu above an odd one, expected %d", above_even, above_odd,
+          "%lu searched sheets have an exact half above an even number, %lu above an odd one, expected %d", above_even, above_odd,
           DRAWN_SHEETS / 10);
     for (size_t i = 0; i < BORDERS; i++)
         check(without_plan[i] >= DRAWN_SHEETS / 8 || !is_below(&borders[i]), "%lu sheets have no plan with the %s",

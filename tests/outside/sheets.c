@@ -167,9 +167,9 @@ static void draw_powers(uint64_t *seed, struct plain_frame *frame, uint64_t temp
     static const uint64_t resistances[] = {0, 1, 500, 777, 1000, 2000, 5000, 5000, 10000, 20000};
     frame->resistance = draw_of(seed, resistances, 10);
     const uint32_t factor = frame->resistance == 500 || frame->resistance == 1000 ? 5 : 1;
-    uint64_t most = frame->resistance == 0 ? 100000 : (temperature_scale * 10000 + 5000) / frame->resistance;
+    uint64_t most = frame->resistance == 0 ? POWER_MAX : (temperature_scale * STEADY_STATE_UNIT + STEADY_STATE_UNIT / 2) / frame->resistance;
     for (uint64_t level = 0; level < frame->levels; level++) {
-        frame->power[level] = draw_up_to(seed, (most < 100000 ? most : 100000) / factor) * factor;
+        frame->power[level] = draw_up_to(seed, (most < POWER_MAX ? most : POWER_MAX) / factor) * factor;
         frame->steady_state[level] = plain_steady_state(frame->power[level], frame->resistance);
     }
 }
@@ -252,8 +252,9 @@ void draw_frame(uint64_t *seed, uint64_t jobs_max, uint64_t levels_max, uint64_t
 
 bool has_half(const struct plain_frame *frame, bool above_odd)
 {
+    const uint32_t half = STEADY_STATE_UNIT / 2 + above_odd * STEADY_STATE_UNIT;
     for (uint32_t level = 0; level < frame->levels; level++)
-        if (frame->power[level] * frame->resistance % 20000 == (above_odd ? 15000 : 5000))
+        if (frame->power[level] * frame->resistance % (2 * STEADY_STATE_UNIT) == half)
             return true;
     return false;
 }

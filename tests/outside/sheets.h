@@ -26,7 +26,7 @@ uint64_t draw(uint64_t *seed, uint64_t below);
 // list takes.
 void draw_frame(uint64_t *seed, uint64_t jobs_max, uint64_t levels_max, uint64_t words, struct plain_frame *frame);
 
-// Whether a level's steady state is rounded from an exact half, above an odd number or above an even one.
+// Whether some level's steady state is rounded from an exact half: from one above an odd number, or else above an even one.
 bool has_half(const struct plain_frame *frame, bool above_odd);
 
 // A list of levels, one for each job.

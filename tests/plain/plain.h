@@ -20,6 +20,8 @@ enum {
 
 #define FRAME_LIMIT_MAX 2000000000u // deadline, energy budget, energy step, time and energy read
 #define TEMPERATURE_MAX 20000u
+#define POWER_MAX 100000u
+#define STEADY_STATE_UNIT 10000u // power times resistance, for a steady state of 1
 #define NO_WAY UINT32_MAX // a table's word where no way exists
 
 struct plain_refusal {

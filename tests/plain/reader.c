@@ -5,7 +5,6 @@
 
 enum { DIGITS_MAX = 10 };
 
-#define POWER_MAX 100000u
 #define JOB_FIGURE_MAX 10000000u // time or energy of a job or a change
 
 struct reader {

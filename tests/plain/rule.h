@@ -27,8 +27,9 @@ static inline uint32_t plain_divide_up(uint32_t number, uint32_t by)
 // To the nearest whole number, an exact half to the even one.
 static inline uint32_t plain_steady_state(uint32_t power, uint32_t resistance)
 {
-    uint32_t whole = power * resistance / 10000, rest = power * resistance % 10000;
-    return rest > 5000 || (rest == 5000 && whole % 2 == 1) ? whole + 1 : whole;
+    uint32_t product = power * resistance, half = STEADY_STATE_UNIT / 2;
+    uint32_t whole = product / STEADY_STATE_UNIT, remainder = product % STEADY_STATE_UNIT;
+    return remainder > half || (remainder == half && whole % 2 == 1) ? whole + 1 : whole;
 }
 
 // What is read before the first job: the sheet's start.

@@ -172,7 +172,7 @@ cases T s =
     -- document 02, W2: "The starred case of 275 changes", that of 1,500 and 1,830: "274.5 becomes 274 and 275.5 becomes 276"
     ∷ gives (steadyState 1500 1830) 274
     ∷ gives (steadyState 1450 1900) 276
-    -- W2: "20,000.5 is now lawful"; by hand: 20,001.5 is not
+    -- W2: "20,000.5 is now lawful"; by hand: 20,001.5 is not (read and refused: crates/sheet/specs/Cases.antt)
     ∷ gives (steadyState 40001 5000) 20000
     ∷ gives (steadyState 40003 5000) 20002
     -- "Decay 1, T 1, steady rise 0: 1. Decay 65,536: T."

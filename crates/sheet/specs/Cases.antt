@@ -1,5 +1,5 @@
--- Sheets as bytes, and what their reading gives: document 01's own ('One sheet, whole'), and the end of the steady-state
--- temperature's range (document 02, W2). `proofs/Cases.antt` shows that the definitions give each of them.
+-- Sheets as texts, and whether they are read or which refusal they get: document 01's own ('One sheet, whole'), and the end of the
+-- steady-state temperature's range (document 02, W2). `proofs/Cases.antt` shows that the definitions give each of them.
 -- Assumes nothing.
 use mathlib.Core.Path.{_≡_}
 use Prim.Native.Nat.{ℕ}
@@ -21,9 +21,11 @@ Refused text number line field =
     let f : Refusal = readingOf (bytesOf text) .refusal in
     (numberOf f ≡ number) × (lineOf f ≡ line) × (fieldOf f ≡ field)
 
+-- A sheet without one.
 abbrev pub Read : String → Type 0
 Read text = Refused text 0 0 0
 
+-- The rows.
 pub record Cases : Type 0 where
   -- the sheet as printed
   pub whole : Read (printed "1" "1000" "2000" "20000")

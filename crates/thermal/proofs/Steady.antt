@@ -72,6 +72,6 @@ steady-divided p r =
           ]
     ]
 
--- At most any whole number that P × R / 10,000 is at most.
+-- Where P × R / 10,000 is at most a whole number, so is the steady-state temperature.
 pub steady-within : (p r n : ℕ) → p * r ≤ 10000 * n → steadyState p r ≤ n
 steady-within p r n h = omega (arith, steady-nearest p r .none-nearer n)

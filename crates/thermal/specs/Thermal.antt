@@ -19,11 +19,11 @@ steadyState power resistance =
     let lower : ℕ = product / 10000 in
     cond (eqb (product % 10000) 5000) (lower + lower % 2) ((product + 5000) / 10000)
 
--- How far a whole number is from product / 10,000, in ten-thousandths.
+-- How far a whole number is from product / 10,000, in ten-thousandths. Subtraction stops at 0, so one of the differences is 0.
 abbrev pub distance : ℕ → ℕ → ℕ
 distance product number = (product - 10000 * number) + (10000 * number - product)
 
--- The same in words: no whole number is nearer to product / 10,000; of two as near, this is the even one.
+-- The steady-state temperature in words: no whole number is nearer to product / 10,000; of two as near, it is the even one.
 pub record NearestEven (product nearest : ℕ) : Type 0 where
   pub none-nearer : (number : ℕ) → distance product nearest ≤ distance product number
   pub even : (number : ℕ) → number ≢ nearest → distance product number ≡ distance product nearest → nearest % 2 ≡ 0

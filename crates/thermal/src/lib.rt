@@ -7,7 +7,7 @@ pub fn steady_state(power: u32, resistance: u32) -> u64
 {
     let product = power as u64 * resistance as u64;
     let upper = product / 10_000 + 1;
-    // One less where the upper neighbour is odd: an exact half then goes to the lower one, and no other number does.
+    // One less where the upper neighbour is odd: an exact half then goes to the lower one, and no other product is moved.
     (product + 5_000 - upper % 2) / 10_000
 }
 
