@@ -25,7 +25,7 @@ sub-result : tie.Need-sub-result
 sub-result c = search needs
 
 returns : tie.Need-returns
-returns c = steady-divided (c .args .power) (c .args .resistance)
+returns c = omega (arith, steady-divided (c .args .power) (c .args .resistance))
 
 pub steady-state-spec : {M : Type 1} → statement M
 steady-state-spec = tie.close (tie.spec mul-product add-upper add-result sub-result returns)
