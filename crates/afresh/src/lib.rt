@@ -1,3 +1,5 @@
+#![tactic(auto)]
+
 // Planning afresh after a job: the call that a logger makes with what it reads.
 ghost use Rattle.std.specs.Prelude.{◌≡◌, length};
 ghost use Rattle.frame.specs.Afresh.{reading};

@@ -1,3 +1,5 @@
+#![tactic(auto)]
+
 // The calls that the logger's firmware links.
 ghost use Rattle.std.specs.Prelude.{◌≡◌, length};
 ghost use Rattle.measure.specs.Measure.{measure_of};

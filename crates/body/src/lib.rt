@@ -1,3 +1,5 @@
+#![tactic(auto)]
+
 // The lines of a sheet after its H line: changes of level, jobs with their names, and all of them in order.
 ghost use Rattle.std.specs.Prelude.{◌≡◌, ◌+◌, ◌*◌, ◌≤◌, length, drop};
 ghost use Rattle.lines.specs.Lines.{Reads};

@@ -1,3 +1,5 @@
+#![tactic(auto)]
+
 // Values as C gets them: the number that every call hands back, and the figures of the planner's reply and of the measuring call.
 ghost use Rattle.std.specs.Prelude.{◌≡◌, ◌<◌, ◌^◌};
 ghost use Rattle.c_values.specs.Values.{count_or_refusal, reply_in, figuresOf};

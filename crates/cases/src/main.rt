@@ -1,3 +1,5 @@
+#![tactic(auto)]
+
 // Runs the measuring call, the job names, the planner and planning afresh on the cases of standard input, and prints a line for
 // each case.
 //

@@ -1,3 +1,5 @@
+#![tactic(auto)]
+
 // The checks that follow the sheet's own: 7, 8 and 9 of what is lent, and 13, 14 and 5 of what is read.
 ghost use Rattle.std.specs.Prelude.{◌≡◌, List, ℕ, ◌-◌};
 ghost use Rattle.store.specs.Figures.{sheet_of};

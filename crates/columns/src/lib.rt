@@ -1,3 +1,5 @@
+#![tactic(auto)]
+
 ghost use Rattle.std.specs.Prelude.{◌+◌, ◌*◌, ◌-◌};
 ghost use Rattle.spans.specs.Spans.{Spans};
 ghost use Rattle.cell_map.specs.Rows.{gathered, Behind};

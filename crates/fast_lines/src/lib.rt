@@ -1,3 +1,5 @@
+#![tactic(auto)]
+
 ghost use Rattle.std.specs.Prelude.{◌≤◌, length};
 ghost use Rattle.line_kinds.specs.Figures.{PlaceIn};
 ghost use Rattle.line_kinds.specs.declared.Kind.TheVariants.{Level, Change, Work};

@@ -1,3 +1,5 @@
+#![tactic(auto)]
+
 ghost use Rattle.std.specs.Prelude.{◌≡◌, ◌+◌, ◌≤◌, length};
 ghost use Rattle.name_lines.specs.Name.{name_max};
 ghost use Rattle.fast_name_lines.specs.Name.{name_end, name_line_end};

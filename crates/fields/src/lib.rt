@@ -1,3 +1,5 @@
+#![tactic(auto)]
+
 ghost use Rattle.std.specs.Prelude.{◌≡◌, ◌+◌, ◌-◌, ◌≤◌, length};
 ghost use Rattle.text.specs.Text.{part, count};
 ghost use Rattle.fields.specs.Fields.{opens, numbers_from, numbersIn, fields_of};

@@ -1,3 +1,5 @@
+#![tactic(auto)]
+
 // The first two lines of a sheet, V and H: their figures, or the first fault of a line.
 ghost use Rattle.std.specs.Prelude.{◌≡◌, ◌-◌, ◌≤◌, length};
 ghost use Rattle.text.specs.Text.{part, count};

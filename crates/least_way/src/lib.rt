@@ -1,3 +1,5 @@
+#![tactic(auto)]
+
 ghost use Rattle.std.specs.Prelude.{◌+◌, ◌≤◌};
 ghost use Rattle.store.specs.Store.{levels_max};
 ghost use Rattle.one_way.specs.Way.{Opened};

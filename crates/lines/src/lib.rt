@@ -1,3 +1,5 @@
+#![tactic(auto)]
+
 ghost use Rattle.std.specs.Prelude.{◌≡◌, ◌+◌, ◌<◌, ◌≤◌, length, drop};
 ghost use Rattle.store.specs.Store.{store_size};
 ghost use Rattle.line_kinds.specs.Figures.{places_of};

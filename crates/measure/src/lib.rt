@@ -1,3 +1,5 @@
+#![tactic(auto)]
+
 ghost use Rattle.std.specs.Prelude.{◌≡◌};
 ghost use Rattle.frame.specs.Limits.{margins};
 ghost use Rattle.store.specs.Figures.{sheet_of};

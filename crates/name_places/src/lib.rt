@@ -1,3 +1,5 @@
+#![tactic(auto)]
+
 // Where a job's name is on a sheet: how far its J line is, and the part of the text that the name is.
 ghost use Rattle.std.specs.Prelude.{◌≡◌, ◌≤◌, length, drop};
 ghost use Rattle.name_places.specs.Place.{skip, next_name};

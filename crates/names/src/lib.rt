@@ -1,3 +1,5 @@
+#![tactic(auto)]
+
 ghost use Rattle.std.specs.Prelude.{◌≡◌, ◌≤◌};
 ghost use Rattle.store.specs.Store.{jobs_max, levels_max};
 ghost use Rattle.body.specs.Body.{job_lines, lines_before};

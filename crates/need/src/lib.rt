@@ -1,3 +1,5 @@
+#![tactic(auto)]
+
 // The table that a sheet needs: its axes, and how many words it has.
 ghost use Rattle.std.specs.Prelude.{◌≡◌, ◌<◌, ◌^◌};
 ghost use Rattle.frame.specs.Table.{need};

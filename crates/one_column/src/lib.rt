@@ -1,3 +1,5 @@
+#![tactic(auto)]
+
 ghost use Rattle.std.specs.Prelude.{cond, ℕ, ◌+◌, ◌*◌, ◌-◌, ◌≤◌, ◌<◌, ltb, length, get_or};
 ghost use Rattle.word.specs.Word.{far, near};
 ghost use Rattle.one_column.specs.Column.{Column};

@@ -1,3 +1,5 @@
+#![tactic(auto)]
+
 ghost use Rattle.std.specs.Prelude.{ℕ, ◌+◌, ◌*◌, ◌<◌};
 ghost use Rattle.word.specs.Word.{settled};
 ghost use Rattle.spans.specs.Spans.{Spans};

@@ -1,3 +1,5 @@
+#![tactic(auto)]
+
 ghost use Rattle.std.specs.Prelude.{◌≡◌, ◌+◌, ◌≤◌};
 ghost use Rattle.word.specs.Word.{sum_max};
 ghost use Rattle.one_way.specs.Way.{by_way, slot_of, Opened};

@@ -1,3 +1,5 @@
+#![tactic(auto)]
+
 // Reads a sheet from standard input and prints its plan or its refusal; where either cannot be done, it says so on standard error.
 ghost use Rattle.std.specs.Prelude.{◌≤◌, length};
 ghost use Rattle.plan.specs.Input.{Within, More};

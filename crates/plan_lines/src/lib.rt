@@ -1,3 +1,5 @@
+#![tactic(auto)]
+
 // The lines of plan text. Each function hands back the place after its line.
 ghost use Rattle.std.specs.Prelude.{◌+◌, ◌≤◌, ◌<◌, length};
 ghost use Rattle.name_lines.specs.Name.{name_max};

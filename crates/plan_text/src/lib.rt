@@ -1,3 +1,5 @@
+#![tactic(auto)]
+
 ghost use Rattle.std.specs.Prelude.{◌+◌, ◌*◌, ◌≤◌, length, take, drop};
 ghost use Rattle.frame.specs.Run.{start};
 ghost use Rattle.store.specs.Figures.{sheet_of};

@@ -1,3 +1,5 @@
+#![tactic(auto)]
+
 ghost use Rattle.std.specs.Prelude.{◌≡◌, length};
 ghost use Rattle.frame.specs.Sheet.{Ranges};
 ghost use Rattle.store.specs.Figures.{sheet_of};

@@ -1,3 +1,5 @@
+#![tactic(auto)]
+
 ghost use Rattle.std.specs.Prelude.{◌≤◌};
 ghost use Rattle.writer.specs.Written.{Wrote};
 ghost use Rattle.plan_text.specs.Text.{text_least};

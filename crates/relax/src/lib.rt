@@ -1,3 +1,5 @@
+#![tactic(auto)]
+
 ghost use Rattle.std.specs.Prelude.{ℕ, ◌+◌, ◌*◌, ◌-◌, get_or};
 ghost use Rattle.word.specs.Word.{settled};
 ghost use Rattle.open_ways.specs.Moves.{relaxed_at};

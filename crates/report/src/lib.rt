@@ -1,3 +1,5 @@
+#![tactic(auto)]
+
 ghost use Rattle.std.specs.Prelude.{◌≡◌, ◌≤◌, length};
 ghost use Rattle.plan_text.specs.Text.{text_least};
 ghost use Rattle.report.specs.Report.{answer_in, refused_report, report_of, text_after};

@@ -1,3 +1,5 @@
+#![tactic(auto)]
+
 ghost use Rattle.std.specs.Prelude.{◌≡◌, ◌≤◌, length, drop, get_or};
 ghost use Rattle.store.specs.Store.{jobs_max, levels_max};
 ghost use Rattle.sheet.specs.Reading.{read_in, clear, refused_reading, figures_from, head_from, reading_of};

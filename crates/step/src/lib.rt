@@ -1,3 +1,5 @@
+#![tactic(auto)]
+
 ghost use Rattle.std.specs.Prelude.{◌≡◌, List, ℕ, ◌+◌, ◌≤◌, ◌<◌, length, get_or, take};
 ghost use Rattle.thermal.specs.Thermal.{steady_state};
 ghost use Rattle.frame.specs.Sheet.{Sheet, Ranges, temperature_max};

@@ -1,3 +1,5 @@
+#![tactic(auto)]
+
 // What is kept of a sheet that was read: the figures of its V and H lines side by side, and those of its L, S and B lines in one store.
 // A figure of a change stands in the store by the level left and then the level entered, one of a job by the job and then the level.
 

@@ -1,3 +1,5 @@
+#![tactic(auto)]
+
 ghost use Rattle.std.specs.Prelude.{◌≡◌, ◌≤◌};
 ghost use Rattle.thermal.specs.Rounding.{ceil_div};
 ghost use Rattle.frame.specs.Sheet.{limit_max};

@@ -1,3 +1,5 @@
+#![tactic(auto)]
+
 ghost use Rattle.std.specs.Prelude.{◌≡◌};
 ghost use Rattle.thermal.specs.Thermal.{steady_state, temperature_after, RuleDomain};
 

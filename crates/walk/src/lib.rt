@@ -1,3 +1,5 @@
+#![tactic(auto)]
+
 ghost use Rattle.std.specs.Prelude.{◌≡◌, ◌++◌, ℕ, ◌-◌, ◌≤◌, length, drop};
 ghost use Rattle.thermal.specs.Rounding.{raise};
 ghost use Rattle.frame.specs.Sheet.{Sheet};

@@ -1,3 +1,5 @@
+#![tactic(auto)]
+
 // Bytes written into a part that is lent. Each function hands back the place after what it wrote.
 ghost use Rattle.std.specs.Prelude.{[], ◌∷◌, ◌+◌, ◌≤◌, ◌<◌, length};
 ghost use Rattle.writer.specs.Decimal.{decimal, field, number_end, field_max};
