@@ -10,7 +10,7 @@ import sys
 
 NAME = r"[^\W\d][\w'′]*(?:-[\w'′]+)*"
 TOKEN = re.compile(r"(?<![\w'′-])" + NAME + r"(?![\w'′-])")
-DECLARED = re.compile(r"^\s*(?:(?:pub|abbrev|unfoldable|record|data|let|where|in|\|)\s+)*(" + NAME + r")\s*(?:[({][^:]*)?:(?:\s|$)", re.M)
+DECLARED = re.compile(r"^ *(?:(?:pub|abbrev|unfoldable|record|data|let|where|in|\|) +)*(" + NAME + r") *(?:[({][^:\n]*)?:(?:\s|$)", re.M)
 LET = re.compile(r"\blet (" + NAME + r") [:=]")
 GOAL = re.compile(r"^(" + NAME + r") : (?:\{.*?\} → )?(?:tie|goal)\.", re.M)
 # Words that would meet another name of the same scope, and what they are called instead.
@@ -21,6 +21,7 @@ OTHERWISE = {
     "energy-cells": "energy_count",
     "first-within": "first_within_most",
     "level-at": "level_at_place",
+    "margins-are": "margins_hold",
     "name-on": "name_then",
     "next-cell": "next_at_cell",
     "place-by": "place_is",

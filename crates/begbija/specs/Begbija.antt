@@ -3,11 +3,11 @@
 -- Assumes nothing.
 use Rattle.std.specs.Prelude.{◌↔◌, ◌⊎◌, ◌≡◌, List, ℕ, ◌≤◌, ◌<◌, ℤ, pos, take}
 use Rattle.store.specs.Store.{jobs_max}
-use Rattle.sheet.specs.Reading.{sheetIn}
+use Rattle.sheet.specs.Reading.{sheet_in}
 use Rattle.reply.specs.declared.Reply.{Reply}
 use Rattle.need.specs.declared.Words.{Words}
 use Rattle.demands.specs.Demands.{plan_in, Demands}
-use Rattle.plan_text.specs.Text.{text_least, planText}
+use Rattle.plan_text.specs.Text.{text_least, plan_text}
 use Rattle.report.specs.declared.Report.{Report}
 use Rattle.report.specs.Report.{table_words}
 use Rattle.c_values.specs.Values.{minus, count_or_refusal}
@@ -27,6 +27,6 @@ pub record TextDemands (t : List ℕ) (room : ℕ) (text : List ℕ) (q : ℤ) :
   pub reply : Reply
   pub levels : List ℕ
   pub demands : Demands t table_words jobs_max levels reply
-  pub plan : (n : ℕ) → q ≡ pos n → let s = sheetIn t in (reply.refusal ≡ 0) × (take n text ≡ planText t s (plan_in s levels))
+  pub plan : (n : ℕ) → q ≡ pos n → let s = sheet_in t in (reply.refusal ≡ 0) × (take n text ≡ plan_text t s (plan_in s levels))
   pub refused : (k : ℕ) → 1 ≤ k → ¬ (k ≡ 9) → q ≡ minus k → reply.refusal ≡ k
   pub narrow : (q ≡ minus 9) ↔ ((room < text_least) × ((reply.refusal ≡ 0) ⊎ (reply.refusal ≡ 10)))

@@ -11,7 +11,7 @@ ghost use Rattle.demands.specs.Demands.{Demands};
 ghost use Rattle.demands.specs.Afresh.{AfreshDemands};
 ghost use Rattle.need.specs.Need.{words_of};
 ghost use Rattle.report.specs.Report.{answer_in, report_of, text_after};
-ghost use Rattle.c_values.specs.Values.{minus, reply_in, figuresOf, measured_in};
+ghost use Rattle.c_values.specs.Values.{minus, reply_in, figures_of, measured_in};
 ghost use Rattle.begbija.specs.Begbija.{text_number, need_number, TextDemands};
 
 // The bytes of plan text written, or minus the refusal.
@@ -68,7 +68,7 @@ pub extern "C" fn begbija_plan_afresh(
 #[unsafe(no_mangle)]
 pub extern "C" fn begbija_measure(sheet: &[u8], levels: &[u8], margins: &mut [i64; 6]) -> i64
     ensures value { result ≡ minus (measure_of sheet.now levels.now).refusal }
-    ensures margins_after { margins.new ≡ figuresOf (measure_of sheet.now levels.now) }
+    ensures margins_after { margins.new ≡ figures_of (measure_of sheet.now levels.now) }
     ensures meaning { Meaning sheet.now levels.now (measured_in margins.new) }
 {
     let m = measure::measure(sheet, levels);

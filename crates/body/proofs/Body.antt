@@ -16,7 +16,7 @@ use Rattle.fields.specs.declared.Fault.TheVariants.{Sound, Shape}
 use Rattle.fields.proofs.Within.{shapeless}
 use Rattle.name_lines.proofs.Name.{name_field}
 use Rattle.fields.specs.Fields.{after}
-use Rattle.lines.specs.Lines.{Found, block_from, foundIn, Reads}
+use Rattle.lines.specs.Lines.{Found, block_from, found_in, Reads}
 use Rattle.line_kinds.specs.declared.Kind.TheVariants.{Level, Change, Work}
 use Rattle.lines.specs.declared.Stop.{Stop}
 use Rattle.fields.proofs.After.{Other, after_other}
@@ -25,7 +25,7 @@ use Rattle.fields.proofs.After.{after_cases}
 use Rattle.lines.proofs.Places.{Placed, block_placed}
 use Rattle.body.specs.declared.Named.{Named}
 use Rattle.store.specs.Store.{jobs_max, levels_max, store_size}
-use Rattle.body.specs.Body.{body_line, changes_line, jobs_line, end_line, onward, changes_from, jobs_from, bodyFrom}
+use Rattle.body.specs.Body.{body_line, changes_line, jobs_line, end_line, onward, changes_from, jobs_from, body_from}
 use Rattle.body.specs.Naming.{NameRead}
 
 -- ---- going on or stopping
@@ -74,9 +74,9 @@ module _ {s : List ℕ} {at line l : ℕ} {old store : List ℕ} {a q p : ℕ} (
           long = r.long;
         }
 
-    pub changes-on : b.fault ≡ Sound → Changes s at line l old new b.at b.line (p + 1)
+    pub changes_on : b.fault ≡ Sound → Changes s at line l old new b.at b.line (p + 1)
     unfolding changes_from
-    changes-on f =
+    changes_on f =
         record {
           most = omega arith;
           few = g.few;
@@ -94,14 +94,14 @@ module _ {s : List ℕ} {p : ℕ} {r : Line} (z : LineAt s p r) where
   name_missing e h =
       record { fault = rw (line_missing z (omega arith) h) refl; next = λ n. absurd (shapeless n); within = λ n. absurd (shapeless n) }
 
-  pub name-read : r.end < length s → (f : Fault) → f ≡ name_fault (part p r.end s) → NameRead s p (record { fault = f; next = r.end + 1 })
-  name-read h f e =
+  pub name_read : r.end < length s → (f : Fault) → f ≡ name_fault (part p r.end s) → NameRead s p (record { fault = f; next = r.end + 1 })
+  name_read h f e =
       record { fault = rw (line_ahead z h) (e ∙ ap name_fault (line_part z)); next = λ n. line_beyond z; within = λ n. omega arith }
 
 -- The reading stops at its fault, and else goes on.
-name-stop : (b : Bool) (g f : Fault) (stop : Fault → Found) (go : Found) → f ≡ cond b g Shape → Other f → cond b (after g (stop g) go) (stop Shape) ≡ stop f
-name-stop true g f stop go e o = rw (← e) (after_other f (stop f) go o)
-name-stop false g f stop go e o = rw e refl
+name_stop : (b : Bool) (g f : Fault) (stop : Fault → Found) (go : Found) → f ≡ cond b g Shape → Other f → cond b (after g (stop g) go) (stop Shape) ≡ stop f
+name_stop true g f stop go e o = rw (← e) (after_other f (stop f) go o)
+name_stop false g f stop go e o = rw e refl
 
 name_then : (b : Bool) (g f : Fault) (stop : Fault → Found) (go : Found) → f ≡ cond b g Shape → f ≡ Sound → cond b (after g (stop g) go) (stop Shape) ≡ go
 name_then true g f stop go e s = rw (← e, s) refl
@@ -146,7 +146,7 @@ module _ {s : List ℕ} {at line l m : ℕ} {old store : List ℕ} {a q i : ℕ}
     pub jobs_name : Other r.fault → Reads s (jobs_from l m 0 (drop at s) line old) (line + m * (levels_max + 1)) store (record { fault = r.fault; line = q; at = a })
     jobs_name o =
         record {
-          found = sym (step ∙ name-stop (ahead 10 (drop a s)) (name_fault (until 10 (drop a s))) r.fault halt work z.fault o);
+          found = sym (step ∙ name_stop (ahead 10 (drop a s)) (name_fault (until 10 (drop a s))) r.fault halt work z.fault o);
           within = g.within;
           lines = omega (arith, g.lines);
           long = g.long;
@@ -168,8 +168,8 @@ module _ {s : List ℕ} {at line l m : ℕ} {old store : List ℕ} {a q i : ℕ}
             long = w.long;
           }
 
-      pub jobs-on : b.fault ≡ Sound → Jobs s at line l m old new b.at b.line (i + 1)
-      jobs-on c =
+      pub jobs_on : b.fault ≡ Sound → Jobs s at line l m old new b.at b.line (i + 1)
+      jobs_on c =
           record {
             most = omega arith;
             few = g.few;
@@ -184,8 +184,8 @@ module _ {s : List ℕ} {at line l m : ℕ} {old store : List ℕ} {a q i : ℕ}
 
 module _ (s : List ℕ) (at m l resistance : ℕ) (old : List ℕ) (few : l ≤ levels_max) (jobs : m ≤ jobs_max)
     {one : List ℕ} {a : Stop} (u : Reads s (block_from (Level resistance) 0 l 0 (drop at s) body_line old) (body_line + l) one a) where
-  pub body_levels : Other a.fault → Reads s (bodyFrom m l resistance (drop at s) body_line old) end_line one a
-  unfolding bodyFrom
+  pub body_levels : Other a.fault → Reads s (body_from m l resistance (drop at s) body_line old) end_line one a
+  unfolding body_from
   body_levels o =
       record {
         found = onward_stop _ _ (jobs_from l m 0) (onward_stop _ _ (changes_from l l 0) u.found o) o;
@@ -195,11 +195,11 @@ module _ (s : List ℕ) (at m l resistance : ℕ) (old : List ℕ) (few : l ≤ 
       }
 
   module _ (sound : a.fault ≡ Sound) {two : List ℕ} {b : Stop} (v : Reads s (changes_from l l 0 (drop a.at s) a.line one) (a.line + l * levels_max) two b) where
-    chained : foundIn s b two ≡ onward (block_from (Level resistance) 0 l 0 (drop at s) body_line old) (changes_from l l 0)
+    chained : found_in s b two ≡ onward (block_from (Level resistance) 0 l 0 (drop at s) body_line old) (changes_from l l 0)
     chained = v.found ∙ sym (onward_on _ _ (changes_from l l 0) u.found sound)
 
-    pub body_changes : Other b.fault → Reads s (bodyFrom m l resistance (drop at s) body_line old) end_line two b
-    unfolding bodyFrom
+    pub body_changes : Other b.fault → Reads s (body_from m l resistance (drop at s) body_line old) end_line two b
+    unfolding body_from
     body_changes o =
         record {
           found = onward_stop _ _ (jobs_from l m 0) chained o;
@@ -208,10 +208,10 @@ module _ (s : List ℕ) (at m l resistance : ℕ) (old : List ℕ) (few : l ≤ 
           long = v.long;
         }
 
-    pub body-jobs : b.fault ≡ Sound → {three : List ℕ} {c : Stop} → Reads s (jobs_from l m 0 (drop b.at s) b.line two) (b.line + m * (levels_max + 1)) three c →
-        Reads s (bodyFrom m l resistance (drop at s) body_line old) end_line three c
-    unfolding bodyFrom
-    body-jobs q w =
+    pub body_jobs : b.fault ≡ Sound → {three : List ℕ} {c : Stop} → Reads s (jobs_from l m 0 (drop b.at s) b.line two) (b.line + m * (levels_max + 1)) three c →
+        Reads s (body_from m l resistance (drop at s) body_line old) end_line three c
+    unfolding body_from
+    body_jobs q w =
         record {
           found = w.found ∙ sym (onward_on _ _ (jobs_from l m 0) chained q);
           within = w.within;
@@ -222,9 +222,9 @@ module _ (s : List ℕ) (at m l resistance : ℕ) (old : List ℕ) (few : l ≤ 
 -- ---- where the reading stops at the latest
 
 -- Lines that stop at line a at the latest, and those after them, if they are sound.
-onward-placed : (a most : ℕ) (f : Found) (go : List ℕ → ℕ → List ℕ → Found) → a ≤ most → Placed a f →
+onward_placed : (a most : ℕ) (f : Found) (go : List ℕ → ℕ → List ℕ → Found) → a ≤ most → Placed a f →
     ((t : List ℕ) (ln : ℕ) (st : List ℕ) → ln ≤ a → Placed most (go t ln st)) → Placed most (onward f go)
-onward-placed a most f go h p q = after_cases (Placed most) f.fault f _ (λ o. omega (arith, p)) (λ s. q f.rest f.line f.store p.line)
+onward_placed a most f go h p q = after_cases (Placed most) f.fault f _ (λ o. omega (arith, p)) (λ s. q f.rest f.line f.store p.line)
 
 module _ (l : ℕ) (few : l ≤ levels_max) (most : ℕ) where
   -- The S lines of the next n levels left.
@@ -232,7 +232,7 @@ module _ (l : ℕ) (few : l ≤ levels_max) (most : ℕ) where
   unfolding changes_from
   changes_placed zero p t ln st h = omega arith
   changes_placed (suc n) p t ln st h =
-      onward-placed (ln + l) most _ _ (omega arith) (block_placed (Change p) (p * levels_max) l 0 t ln st)
+      onward_placed (ln + l) most _ _ (omega arith) (block_placed (Change p) (p * levels_max) l 0 t ln st)
       (λ u k store q. changes_placed n (p + 1) u k store (omega arith))
 
   -- The lines of the next n jobs.
@@ -243,15 +243,15 @@ module _ (l : ℕ) (few : l ≤ levels_max) (most : ℕ) where
       let name = name_fault (until 10 t) in
       cond_cases (Placed most) (ahead 10 t) _ _
       (λ a. after_cases (Placed most) name _ _ (λ o. omega (arith, name_field (until 10 t)))
-      (λ s. onward-placed (ln + 1 + l) most _ _ (omega arith) (block_placed Work (i * levels_max) l 0 (beyond 10 t) (ln + 1) st)
+      (λ s. onward_placed (ln + 1 + l) most _ _ (omega arith) (block_placed Work (i * levels_max) l 0 (beyond 10 t) (ln + 1) st)
       (λ u k store q. jobs_placed n (i + 1) u k store (omega arith))))
       (λ a. omega arith)
 
 -- All of them, and bytes after them on the next line.
-pub body-placed : (m l resistance : ℕ) (t st : List ℕ) → m ≤ jobs_max → l ≤ levels_max → Placed end_line (bodyFrom m l resistance t body_line st)
-unfolding bodyFrom
-body-placed m l resistance t st jobs few =
-    onward-placed jobs_line end_line _ _ (omega arith)
-    (onward-placed (body_line + l) jobs_line _ _ (omega arith) (block_placed (Level resistance) 0 l 0 t body_line st)
+pub body_placed : (m l resistance : ℕ) (t st : List ℕ) → m ≤ jobs_max → l ≤ levels_max → Placed end_line (body_from m l resistance t body_line st)
+unfolding body_from
+body_placed m l resistance t st jobs few =
+    onward_placed jobs_line end_line _ _ (omega arith)
+    (onward_placed (body_line + l) jobs_line _ _ (omega arith) (block_placed (Level resistance) 0 l 0 t body_line st)
     (λ u k store q. changes_placed l few jobs_line l 0 u k store (omega arith)))
     (λ u k store q. jobs_placed l few end_line m 0 u k store (omega arith))

@@ -58,6 +58,6 @@ jobs_from l (suc n) i t ln st =
     (record { fault = Shape; line = ln; rest = t; store = st })
 
 -- All lines after the H line of a sheet of m jobs and l levels.
-unfoldable pub bodyFrom : ℕ → ℕ → ℕ → List ℕ → ℕ → List ℕ → Found
-bodyFrom m l resistance t ln st =
+unfoldable pub body_from : ℕ → ℕ → ℕ → List ℕ → ℕ → List ℕ → Found
+body_from m l resistance t ln st =
     onward (onward (block_from (Level resistance) 0 l 0 t ln st) (changes_from l l 0)) (jobs_from l m 0)

@@ -4,7 +4,7 @@
 ghost use Rattle.std.specs.Prelude.{◌≡◌, ◌+◌, ◌*◌, ◌≤◌, length, drop};
 ghost use Rattle.lines.specs.Lines.{Reads};
 ghost use Rattle.store.specs.Store.{jobs_max, levels_max, store_size};
-ghost use Rattle.body.specs.Body.{body_line, changes_line, jobs_line, end_line, changes_from, jobs_from, bodyFrom};
+ghost use Rattle.body.specs.Body.{body_line, changes_line, jobs_line, end_line, changes_from, jobs_from, body_from};
 ghost use Rattle.body.specs.Naming.{NameRead};
 
 use fields::Fault;
@@ -118,7 +118,7 @@ pub fn read_body(
     store: &mut [u32],
 ) -> Stop
     requires { (at ≤ length s.now) × (l ≤ levels_max) × (m ≤ jobs_max) × (length store.old ≡ store_size) }
-    ensures { Reads s.now (bodyFrom m l resistance (drop at s.now) body_line store.old) end_line store.new result }
+    ensures { Reads s.now (body_from m l resistance (drop at s.now) body_line store.old) end_line store.new result }
 {
     let a = lines::read_block(s, at, BODY_LINE, Kind::Level(resistance), 0, l, store);
     let f = a.fault;

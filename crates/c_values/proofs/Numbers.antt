@@ -11,7 +11,7 @@ use mir.Val.{SFits, to_z, of_z}
 use mir.Facts.{to_z-of_z, to_z_pos}
 use Rattle.margin.proofs.Signed.{minus_is}
 use Rattle.measure.specs.declared.Measured.{Measured}
-use Rattle.c_values.specs.Values.{minus, count_or_refusal, figuresOf}
+use Rattle.c_values.specs.Values.{minus, count_or_refusal, figures_of}
 
 pub number_count : (refusal count : ℕ) → refusal ≡ 0 → count < 2 ^ 63 → to_z w64 count ≡ count_or_refusal refusal count
 number_count refusal count e h = rw (eq-eqb refusal 0 e) (to_z_pos w64 h)
@@ -25,9 +25,9 @@ number_only zero = refl
 number_only (suc k) = rw (ne_eqb (suc k) 0 (λ e. omega (arith, e))) refl
 
 -- A signed number that was handed on says the same.
-pub handed-on : {z q : ℤ} → SFits w64 z → z ≡ q → to_z w64 (of_z w64 z) ≡ q
-handed-on ok e = to_z-of_z ok ∙ e
+pub handed_on : {z q : ℤ} → SFits w64 z → z ≡ q → to_z w64 (of_z w64 z) ≡ q
+handed_on ok e = to_z-of_z ok ∙ e
 
 pub figures_are : (q : Measured) {refusal line field time energy temperature : ℤ} → refusal ≡ pos q.refusal → line ≡ pos q.line → field ≡ pos q.field →
-    time ≡ q.time → energy ≡ q.energy → temperature ≡ q.temperature → (refusal ∷ line ∷ field ∷ time ∷ energy ∷ temperature ∷ []) ≡ figuresOf q
+    time ≡ q.time → energy ≡ q.energy → temperature ≡ q.temperature → (refusal ∷ line ∷ field ∷ time ∷ energy ∷ temperature ∷ []) ≡ figures_of q
 figures_are q r l f t e k = cc (r, l, f, t, e, k)

@@ -27,8 +27,8 @@ reply_in w =
     }
 
 -- The six figures of `struct begbija_margins`, of what the measuring call says.
-abbrev pub figuresOf : Measured → List ℤ
-figuresOf q = pos q.refusal ∷ pos q.line ∷ pos q.field ∷ q.time ∷ q.energy ∷ q.temperature ∷ []
+abbrev pub figures_of : Measured → List ℤ
+figures_of q = pos q.refusal ∷ pos q.line ∷ pos q.field ∷ q.time ∷ q.energy ∷ q.temperature ∷ []
 
 -- What the measuring call says, as these six figures hold it.
 abbrev pub measured_in : List ℤ → Measured

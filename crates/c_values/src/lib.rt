@@ -2,7 +2,7 @@
 
 // Values as C gets them: the number that every call hands back, and the figures of the planner's reply and of the measuring call.
 ghost use Rattle.std.specs.Prelude.{◌≡◌, ◌<◌, ◌^◌};
-ghost use Rattle.c_values.specs.Values.{count_or_refusal, reply_in, figuresOf};
+ghost use Rattle.c_values.specs.Values.{count_or_refusal, reply_in, figures_of};
 
 use measure::Measured;
 use reply::Reply;
@@ -36,7 +36,7 @@ pub fn put_reply(r: Reply, reply: &mut [u64; 7])
 // Writes what the measuring call says for C.
 pub fn put_margins(m: Measured, margins: &mut [i64; 6])
     requires { record { line : m.line < 2 ^ 63; field : m.field < 2 ^ 63 } }
-    ensures { margins.new ≡ figuresOf m }
+    ensures { margins.new ≡ figures_of m }
 {
     *margins = [
         m.refusal as i64,

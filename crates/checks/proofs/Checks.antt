@@ -60,7 +60,7 @@ lack_none need n words bytes =
     lack_cases (λ c. c ≡ 0 → (need ≤ words_max) × (need ≤ words) × (n ≤ bytes)) need n words bytes
     (λ a e. absurd (omega (arith, e))) (λ a b e. absurd (omega (arith, e))) (λ a b c e. absurd (omega (arith, e))) (λ a b c e. (a, b, c))
 
-pub fault-passed : (s : Sheet) (a : State) → fault_of s a ≡ 0 → Readable s a
-fault-passed s a =
+pub fault_passed : (s : Sheet) (a : State) → fault_of s a ≡ 0 → Readable s a
+fault_passed s a =
     fault_cases (λ c. c ≡ 0 → Readable s a) s a
     (λ d e. absurd (omega (arith, e))) (λ d r e. absurd (omega (arith, e))) (λ d r h e. absurd (omega (arith, e))) (λ d r h e. record { done = d; range = r; temperature = h })

@@ -31,15 +31,15 @@ module _ (f : ℕ → ℕ) (k : ℕ) where
       let m : min (least_of k f) (f k) ≡ f k = omega arith in
       rw (add-one, m, lt-leb (least_of k f) (f k) h) refl
 
-  pub first-kept : least_of k f ≤ f k → first_within (k + 1) f (least_of (k + 1) f) ≡ first_within k f (least_of k f)
+  pub first_kept : least_of k f ≤ f k → first_within (k + 1) f (least_of (k + 1) f) ≡ first_within k f (least_of k f)
   unfolding first_within least_of
-  first-kept h =
+  first_kept h =
       let m : min (least_of k f) (f k) ≡ least_of k f = omega arith in
       rw (add-one, m, le-leb (least_of k f) (least_of k f) (omega arith)) refl
 
-pub first-none : (f : ℕ → ℕ) → first_within 0 f (least_of 0 f) ≡ 0
+pub first_none : (f : ℕ → ℕ) → first_within 0 f (least_of 0 f) ≡ 0
 unfolding first_within
-first-none f = refl
+first_none f = refl
 
 -- ---- a table that holds words
 
@@ -99,8 +99,8 @@ module _ {s : Sheet} {f : Frame} (x : Axes s f) {a : State} (c : AtCell s a) {j 
         rw (← after_cell, q, rest_is x b t)
         (sym (cost_within s (state_of b) (rest_by s t (state_of b)) (omega (arith, x.energy_budget)) (omega (arith, x.temperature_limit))))
 
-    way-level : b.level ≡ j
-    way-level = ap (λ (z : State). z.level) after_cell ∙ next_level s a j
+    way_level : b.level ≡ j
+    way_level = ap (λ (z : State). z.level) after_cell ∙ next_level s a j
 
     way_cool : b.temperature ≤ s.temperature_limit
     way_cool =
@@ -113,4 +113,4 @@ module _ {s : Sheet} {f : Frame} (x : Axes s f) {a : State} (c : AtCell s a) {j 
         )
 
     pub way_looks : {n : ℕ} → need s ≤ n → b.done < f.head.jobs → Looks f b n
-    way_looks h d = looks x b (rw way-level l) (omega (arith, x.energy_budget)) way_cool h d
+    way_looks h d = looks x b (rw way_level l) (omega (arith, x.energy_budget)) way_cool h d

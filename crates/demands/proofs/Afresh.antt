@@ -13,8 +13,8 @@ use Rattle.frame.specs.Demands.{Best, end_time, Keeps, Figures, figures}
 use Rattle.frame.specs.Plan.{outcome}
 use Rattle.frame.specs.Afresh.{InRange, Readable, jobs_left, tightened_left, Kept}
 use Rattle.frame.specs.Table.{need}
-use Rattle.frame.proofs.Afresh.{left_demand2, left_demand3, spent_keeps, late_keeps, kept_readable, kept-rest}
-use Rattle.sheet.specs.Reading.{reading_of, sheetIn}
+use Rattle.frame.proofs.Afresh.{left_demand2, left_demand3, spent_keeps, late_keeps, kept_readable, kept_rest}
+use Rattle.sheet.specs.Reading.{reading_of, sheet_in}
 use Rattle.checks.specs.Checks.{fault_of}
 use Rattle.checks.proofs.Checks.{fault_cases}
 use Rattle.reply.specs.declared.Reply.{Reply}
@@ -22,7 +22,7 @@ use Rattle.reply.specs.Answer.{Answer, found_from, refused_reply, Answers}
 use Rattle.demands.specs.Order.{unless, afresh_for, afresh_to, afresh_of}
 use Rattle.demands.specs.Demands.{Enough, Memory, Demand3}
 use Rattle.demands.specs.Afresh.{Passed, LeftDemands, AfreshDemands}
-use Rattle.demands.proofs.Demands.{unlooked, on_found, Lacks, memory_enough, lack-split, by-reading}
+use Rattle.demands.proofs.Demands.{unlooked, on_found, Lacks, memory_enough, lack_split, by_reading}
 
 -- ---- what is read
 
@@ -48,8 +48,8 @@ module _ {s : Sheet} {a : State} {r : Reply} where
         zeros = rw z refl;
       }
 
-  on-range : a.done < s.jobs → ¬ InRange s a → r ≡ refused_reply 14 0 0 → Faults s a r
-  on-range g h z =
+  on_range : a.done < s.jobs → ¬ InRange s a → r ≡ refused_reply 14 0 0 → Faults s a r
+  on_range g h z =
       let e = ap (λ (q : Reply). q.refusal) z in
       record {
         thirteen = ((λ q. absurd (omega arith)), (λ q. absurd (omega arith)));
@@ -60,8 +60,8 @@ module _ {s : Sheet} {a : State} {r : Reply} where
         zeros = rw z refl;
       }
 
-  on-hot : a.done < s.jobs → InRange s a → s.temperature_limit < a.temperature → r ≡ refused_reply 5 0 0 → Faults s a r
-  on-hot f g h z =
+  on_hot : a.done < s.jobs → InRange s a → s.temperature_limit < a.temperature → r ≡ refused_reply 5 0 0 → Faults s a r
+  on_hot f g h z =
       let e = ap (λ (q : Reply). q.refusal) z in
       record {
         thirteen = ((λ q. absurd (omega arith)), (λ q. absurd (omega arith)));
@@ -73,15 +73,15 @@ module _ {s : Sheet} {a : State} {r : Reply} where
       }
 
   -- The reading is refused, or it is answered what comes after.
-  fault-split : (after : Answer) {words words' bytes bytes' : List ℕ} → Answers (unless (fault_of s a) after) words words' bytes bytes' r →
+  fault_split : (after : Answer) {words words' bytes bytes' : List ℕ} → Answers (unless (fault_of s a) after) words words' bytes bytes' r →
       Faults s a r ⊎ (Readable s a × Answers after words words' bytes bytes' r)
-  fault-split after {words} {words'} {bytes} {bytes'} =
+  fault_split after {words} {words'} {bytes} {bytes'} =
       fault_cases
       (λ c. Answers (unless c after) words words' bytes bytes' r → Faults s a r ⊎ (Readable s a × Answers after words words' bytes bytes' r))
       s a
       (λ h z. inl (on_done h z.reply))
-      (λ g h z. inl (on-range g h z.reply))
-      (λ f g h z. inl (on-hot f g h z.reply))
+      (λ g h z. inl (on_range g h z.reply))
+      (λ f g h z. inl (on_hot f g h z.reply))
       (λ f g h z. inr (record { done = f; range = g; temperature = h }, z))
 
 -- ---- what is found
@@ -102,7 +102,7 @@ module _ {s : Sheet} (ok : Ranges s) {a : State} (new : a.peak ≡ 0) {words byt
   kept_holds b l t p m e js best n k w =
       let size = best.keeps.levels.size in
       let read = kept_readable s ok b m e js size n a new k l t (omega arith) best.keeps in
-      let rest = kept-rest s ok b m e js size n a new k s.deadline best.keeps in
+      let rest = kept_rest s ok b m e js size n a new k s.deadline best.keeps in
       let z = d.answer.plan.1 ((w, read), (drop n js, rest.0)) in
       (z, omega (arith, ap (λ (f : Figures). f.time) (d.figures z), (d.answer.best z).least (drop n js) rest.0, rest.1))
 
@@ -151,8 +151,8 @@ module _ (s : Sheet) (ok : Ranges s) (a : State) (new : a.peak ≡ 0) (n : ℕ) 
           kept_afresh = kept_again ok new f;
         }
 
-    on-readable : Readable s a → Answers (found_from s a) words words' bytes bytes' r → holds
-    on-readable t h =
+    on_readable : Readable s a → Answers (found_from s a) words words' bytes bytes' r → holds
+    on_readable t h =
         let some : 1 ≤ jobs_left s a = omega (arith, t.done) in
         let cool : a.peak ≤ s.temperature_limit = omega arith in
         let both : Passed s a n (length bytes) = (w, t) in
@@ -170,11 +170,11 @@ module _ (s : Sheet) (ok : Ranges s) (a : State) (new : a.peak ≡ 0) (n : ℕ) 
           kept_afresh = kept_again ok new f.0;
         }
 
-  on-left : Answers (afresh_for s a n (length bytes)) words words' bytes bytes' r → holds
+  on_left : Answers (afresh_for s a n (length bytes)) words words' bytes bytes' r → holds
   unfolding afresh_for
-  on-left h =
-      ⊎_elim on_lack (λ w. ⊎_elim (on_fault w.0) (λ t. on-readable w.0 t.0 t.1) (fault-split (found_from s a) w.1))
-      (lack-split (unless (fault_of s a) (found_from s a)) h)
+  on_left h =
+      ⊎_elim on_lack (λ w. ⊎_elim (on_fault w.0) (λ t. on_readable w.0 t.0 t.1) (fault_split (found_from s a) w.1))
+      (lack_split (unless (fault_of s a) (found_from s a)) h)
 
 -- ---- every sheet
 
@@ -182,8 +182,8 @@ pub afresh_hold : (sheet : List ℕ) (a : State) → a.peak ≡ 0 → (words wor
     Answers (afresh_of sheet a (length words) (length bytes)) words words' bytes bytes' r → AfreshDemands sheet a (length words) (length bytes) bytes' r
 unfolding afresh_to afresh_of
 afresh_hold sheet a new words words' bytes bytes' r h =
-    let d = by-reading sheet (λ s. afresh_for s a (length words) (length bytes)) h in
+    let d = by_reading sheet (λ s. afresh_for s a (length words) (length bytes)) h in
     record {
       fails = d.0;
-      passes = λ e. on-left (sheetIn sheet) (d.1 e).0 a new (length words) words words' bytes bytes' r (d.1 e).1;
+      passes = λ e. on_left (sheet_in sheet) (d.1 e).0 a new (length words) words words' bytes bytes' r (d.1 e).1;
     }

@@ -14,19 +14,19 @@ use Rattle.frame.specs.Demands as frame
 use Rattle.frame.specs.Demands.{Outcome, planned, no_plan, Figures, figures}
 use Rattle.frame.specs.Plan.{frame_outcome}
 use Rattle.frame.specs.Table.{need, words_max}
-use Rattle.frame.proofs.Demand3.{frame-demand2, frame_demand3}
+use Rattle.frame.proofs.Demand3.{frame_demand2, frame_demand3}
 use Rattle.refusal.specs.declared.Refusal.{Refusal}
 use Rattle.refusal.specs.declared.Refusal.TheVariants.{Nothing}
 use Rattle.refusal.specs.Code.{number_of, line_of, field_of, accepted}
 use Rattle.refusal.proofs.Apart.{accepted_refused}
-use Rattle.sheet.specs.Reading.{reading_of, sheetIn}
+use Rattle.sheet.specs.Reading.{reading_of, sheet_in}
 use Rattle.sheet.proofs.Ranges.{read_ranges}
 use Rattle.checks.specs.Checks.{lack_of}
 use Rattle.checks.proofs.Checks.{lack_cases}
 use Rattle.reply.specs.declared.Reply.{Reply}
 use Rattle.reply.specs.Answer.{Answer, refused, found, refused_reply, planned_as, Answers}
 use Rattle.reply.proofs.Peak.{peak_between}
-use Rattle.demands.specs.Order.{frame_found, unless, answerFor, turned_away, answer_by, answer_to, answer_of}
+use Rattle.demands.specs.Order.{frame_found, unless, answer_for, turned_away, answer_by, answer_to, answer_of}
 use Rattle.demands.specs.Demands.{Enough, Memory, Fixed, Demand3, FrameDemands, Demands}
 
 module _ {s : Sheet} {k : Limits} {n : ℕ} {a : State} {passed : Type 0} {part : List ℕ} {r : Reply} where
@@ -129,8 +129,8 @@ module _ {s : Sheet} {n words bytes : ℕ} {r : Reply} where
         nine = ((λ q. absurd (u 9 (omega arith) (omega arith) q)), (λ q. absurd (omega (arith, w.part, q.2))));
       }
 
-  on-seven : words_max < need s → r ≡ refused_reply 7 0 0 → Lacks s n words bytes r
-  on-seven h z =
+  on_seven : words_max < need s → r ≡ refused_reply 7 0 0 → Lacks s n words bytes r
+  on_seven h z =
       let e = ap (λ (q : Reply). q.refusal) z in
       record {
         memory =
@@ -145,8 +145,8 @@ module _ {s : Sheet} {n words bytes : ℕ} {r : Reply} where
         zeros = rw z refl;
       }
 
-  on-eight : need s ≤ words_max → words < need s → r ≡ refused_reply 8 0 0 → Lacks s n words bytes r
-  on-eight g h z =
+  on_eight : need s ≤ words_max → words < need s → r ≡ refused_reply 8 0 0 → Lacks s n words bytes r
+  on_eight g h z =
       let e = ap (λ (q : Reply). q.refusal) z in
       record {
         memory =
@@ -161,8 +161,8 @@ module _ {s : Sheet} {n words bytes : ℕ} {r : Reply} where
         zeros = rw z refl;
       }
 
-  on-nine : need s ≤ words_max → need s ≤ words → bytes < n → r ≡ refused_reply 9 0 0 → Lacks s n words bytes r
-  on-nine f g h z =
+  on_nine : need s ≤ words_max → need s ≤ words → bytes < n → r ≡ refused_reply 9 0 0 → Lacks s n words bytes r
+  on_nine f g h z =
       let e = ap (λ (q : Reply). q.refusal) z in
       record {
         memory =
@@ -178,50 +178,50 @@ module _ {s : Sheet} {n words bytes : ℕ} {r : Reply} where
       }
 
   -- Something is lacking, or it is answered what comes after.
-  pub lack-split : (after : Answer) {words₀ words' bytes₀ bytes' : List ℕ} → Answers (unless (lack_of (need s) n words bytes) after) words₀ words' bytes₀ bytes' r →
+  pub lack_split : (after : Answer) {words₀ words' bytes₀ bytes' : List ℕ} → Answers (unless (lack_of (need s) n words bytes) after) words₀ words' bytes₀ bytes' r →
       Lacks s n words bytes r ⊎ (Enough s n words bytes × Answers after words₀ words' bytes₀ bytes' r)
-  lack-split after {words₀} {words'} {bytes₀} {bytes'} =
+  lack_split after {words₀} {words'} {bytes₀} {bytes'} =
       lack_cases
       (λ c. Answers (unless c after) words₀ words' bytes₀ bytes' r → Lacks s n words bytes r ⊎ (Enough s n words bytes × Answers after words₀ words' bytes₀ bytes' r))
       (need s) n words bytes
-      (λ h z. inl (on-seven h z.reply))
-      (λ g h z. inl (on-eight g h z.reply))
-      (λ f g h z. inl (on-nine f g h z.reply))
+      (λ h z. inl (on_seven h z.reply))
+      (λ g h z. inl (on_eight g h z.reply))
+      (λ f g h z. inl (on_nine f g h z.reply))
       (λ f g h z. inr (record { size = f; table = g; part = h }, z))
 
 -- ---- the sheet's own frame
 
-on-frame : (s : Sheet) → Ranges s → (n : ℕ) (words words' bytes bytes' : List ℕ) (r : Reply) →
-    Answers (answerFor s n (length bytes)) words words' bytes bytes' r → FrameDemands s n (length bytes) bytes' r
-unfolding answerFor
-on-frame s ok n words words' bytes bytes' r a =
+on_frame : (s : Sheet) → Ranges s → (n : ℕ) (words words' bytes bytes' : List ℕ) (r : Reply) →
+    Answers (answer_for s n (length bytes)) words words' bytes bytes' r → FrameDemands s n (length bytes) bytes' r
+unfolding answer_for
+on_frame s ok n words words' bytes bytes' r a =
     ⊎_elim
     (λ l. record { memory = l.memory; found = unlooked l.short l.zeros (λ q. omega (arith, l.low)) (λ q. omega (arith, l.high)) })
     (λ w.
-    let f = on_found s (tightened s) s.jobs (start s) (frame_outcome s) w.0 (frame-demand2 s ok) (frame_demand3 s ok) w.1 in
+    let f = on_found s (tightened s) s.jobs (start s) (frame_outcome s) w.0 (frame_demand2 s ok) (frame_demand3 s ok) w.1 in
     record { memory = memory_enough w.0 (λ x l h. f.1 x (λ q. omega arith) (λ q. omega arith)); found = f.0 })
-    (lack-split (frame_found s) a)
+    (lack_split (frame_found s) a)
 
 -- ---- every sheet
 
 -- A sheet is refused for the first check of 1 to 6 that it fails, or else answered by its figures.
-pub by-reading : (sheet : List ℕ) (answer : Sheet → Answer) {words words' bytes bytes' : List ℕ} {r : Reply} → Answers (answer_by (reading_of sheet) answer) words words' bytes bytes' r →
+pub by_reading : (sheet : List ℕ) (answer : Sheet → Answer) {words words' bytes bytes' : List ℕ} {r : Reply} → Answers (answer_by (reading_of sheet) answer) words words' bytes bytes' r →
     let f = (reading_of sheet).refusal in
-    (¬ (f ≡ Nothing) → r ≡ refused_reply (number_of f) (line_of f) (field_of f)) × (f ≡ Nothing → Ranges (sheetIn sheet) × Answers (answer (sheetIn sheet)) words words' bytes bytes' r)
+    (¬ (f ≡ Nothing) → r ≡ refused_reply (number_of f) (line_of f) (field_of f)) × (f ≡ Nothing → Ranges (sheet_in sheet) × Answers (answer (sheet_in sheet)) words words' bytes bytes' r)
 unfolding answer_by
-by-reading sheet answer {words} {words'} {bytes} {bytes'} {r} a = (
+by_reading sheet answer {words} {words'} {bytes} {bytes'} {r} a = (
   λ h.
       let b : Answers (refused (number_of (reading_of sheet).refusal) (line_of (reading_of sheet).refusal) (field_of (reading_of sheet).refusal)) words words' bytes bytes' r = rw (accepted_refused (reading_of sheet).refusal turned_away _ h) at a in
       b.reply,
-  λ e. (read_ranges sheet e, rw (ap (λ (f : Refusal). accepted f turned_away (answer (sheetIn sheet))) e) at a),
+  λ e. (read_ranges sheet e, rw (ap (λ (f : Refusal). accepted f turned_away (answer (sheet_in sheet))) e) at a),
 )
 
 pub demands_hold : (sheet words words' bytes bytes' : List ℕ) (r : Reply) →
     Answers (answer_of sheet (length words) (length bytes)) words words' bytes bytes' r → Demands sheet (length words) (length bytes) bytes' r
 unfolding answer_to answer_of
 demands_hold sheet words words' bytes bytes' r a =
-    let d = by-reading sheet (λ s. answerFor s (length words) (length bytes)) a in
+    let d = by_reading sheet (λ s. answer_for s (length words) (length bytes)) a in
     record {
       fails = d.0;
-      passes = λ e. on-frame (sheetIn sheet) (d.1 e).0 (length words) words words' bytes bytes' r (d.1 e).1;
+      passes = λ e. on_frame (sheet_in sheet) (d.1 e).0 (length words) words words' bytes bytes' r (d.1 e).1;
     }

@@ -20,7 +20,7 @@ use Rattle.checks.specs.Checks.{lack_of, fault_of}
 use Rattle.checks.proofs.Checks.{fault_none}
 use Rattle.reply.specs.declared.Reply.{Reply}
 use Rattle.reply.specs.Answer.{Answer, refused, found, found_from, refused_reply, Answers}
-use Rattle.demands.specs.Order.{frame_found, unless, answerFor, afresh_for, turned_away, answer_by, answer_to, answer_of, afresh_to, afresh_of}
+use Rattle.demands.specs.Order.{frame_found, unless, answer_for, afresh_for, turned_away, answer_by, answer_to, answer_of, afresh_to, afresh_of}
 
 -- ---- a check
 
@@ -35,9 +35,9 @@ module _ {words bytes : List ℕ} {q : Reply} where
 
 -- ---- a sheet that was read
 
-by-figures : (r : SheetRead) (answer : Sheet → Answer) → r.refusal ≡ Nothing → answer_by r answer ≡ answer (sheet_of r.head r.store)
+by_figures : (r : SheetRead) (answer : Sheet → Answer) → r.refusal ≡ Nothing → answer_by r answer ≡ answer (sheet_of r.head r.store)
 unfolding answer_by
-by-figures r answer m = ap (λ (f : Refusal). accepted f turned_away (answer (sheet_of r.head r.store))) m
+by_figures r answer m = ap (λ (f : Refusal). accepted f turned_away (answer (sheet_of r.head r.store))) m
 
 -- Two answers to its figures that are the same where they are asked for.
 by_same : (r : SheetRead) (f g : Sheet → Answer) → (r.refusal ≡ Nothing → f (sheet_of r.head r.store) ≡ g (sheet_of r.head r.store)) → answer_by r f ≡ answer_by r g
@@ -58,7 +58,7 @@ module _ (words bytes : List ℕ) (r : SheetRead) (a : State) (q : Reply) where
   module _ (m : r.refusal ≡ Nothing) (s : Sheet) (e : s ≡ sheet_of r.head r.store) where
     passed : (x : Answer) → afresh_for s a (length words) (length bytes) ≡ x → afresh_to r a (length words) (length bytes) ≡ x
     unfolding afresh_to
-    passed x p = by-figures r (λ z. afresh_for z a (length words) (length bytes)) m ∙ ap (λ (z : Sheet). afresh_for z a (length words) (length bytes)) (sym e) ∙ p
+    passed x p = by_figures r (λ z. afresh_for z a (length words) (length bytes)) m ∙ ap (λ (z : Sheet). afresh_for z a (length words) (length bytes)) (sym e) ∙ p
 
     module _ (lack : ℕ) (l : lack ≡ lack_of (need s) (jobs_left s a) (length words) (length bytes)) where
       pub answers_lack : ¬ (lack ≡ 0) → q ≡ refused_reply lack 0 0 → given words bytes
@@ -78,8 +78,8 @@ module _ (words bytes : List ℕ) (r : SheetRead) (a : State) (q : Reply) where
 
 -- ---- the sheet's own frame is the one planned afresh from its start
 
-start_for : (s : Sheet) → Ranges s → (words bytes : ℕ) → afresh_for s (start s) words bytes ≡ answerFor s words bytes
-unfolding afresh_for answerFor
+start_for : (s : Sheet) → Ranges s → (words bytes : ℕ) → afresh_for s (start s) words bytes ≡ answer_for s words bytes
+unfolding afresh_for answer_for
 start_for s ok words bytes =
     let m : s.jobs - 0 ≡ s.jobs = omega arith in
     let z = fault_none s (start s) ok.jobs.low (record { level = ok.start_level; time = omega arith; energy = omega arith; temperature = ok.start_temperature }) ok.cool in
@@ -91,7 +91,7 @@ pub answers_start : (words words' bytes bytes' : List ℕ) (r : SheetRead) (a : 
     Answers (answer_to r (length words) (length bytes)) words words' bytes bytes' q
 unfolding afresh_to answer_to
 answers_start words words' bytes bytes' r a q ok e h =
-    let p : answer_by r (λ s. afresh_for s a (length words) (length bytes)) ≡ answer_by r (λ s. answerFor s (length words) (length bytes)) =
+    let p : answer_by r (λ s. afresh_for s a (length words) (length bytes)) ≡ answer_by r (λ s. answer_for s (length words) (length bytes)) =
     by_same r _ _ (λ m. ap (λ (x : State). afresh_for (sheet_of r.head r.store) x (length words) (length bytes)) e ∙ start_for (sheet_of r.head r.store) (ok m) (length words) (length bytes)) in
     rw p at h
 

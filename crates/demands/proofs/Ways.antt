@@ -18,28 +18,28 @@ use Rattle.refusal.specs.declared.Refusal.TheVariants.{Nothing}
 use Rattle.refusal.specs.Code.{number_of}
 use Rattle.refusal.proofs.Apart.{accepted_ways}
 use Rattle.checks.proofs.Checks.{lack_cases}
-use Rattle.sheet.specs.Reading.{reading_of, sheetIn}
+use Rattle.sheet.specs.Reading.{reading_of, sheet_in}
 use Rattle.sheet.proofs.Ranges.{read_ranges}
 use Rattle.reply.specs.declared.Reply.{Reply}
 use Rattle.reply.specs.Answer.{Answer, refused, found, reply_of, PeakOf, table_after, part_after, Answers}
-use Rattle.demands.specs.Order.{frame_found, unless, answerFor, turned_away, answer_by, answer_to, answer_of}
+use Rattle.demands.specs.Order.{frame_found, unless, answer_for, turned_away, answer_by, answer_to, answer_of}
 use Rattle.demands.specs.Demands.{Demands}
 use Rattle.demands.proofs.Demands.{demands_hold}
 
 module _ (P : Answer → Type 0) where
   module _ (late : (n : ℕ) → 7 ≤ n → n ≤ 8 → P (refused n 0 0)) where
-    frame_ways : (s : Sheet) (words bytes : ℕ) → (bytes < s.jobs → P (refused 9 0 0)) → P (frame_found s) → P (answerFor s words bytes)
-    unfolding answerFor
+    frame_ways : (s : Sheet) (words bytes : ℕ) → (bytes < s.jobs → P (refused 9 0 0)) → P (frame_found s) → P (answer_for s words bytes)
+    unfolding answer_for
     frame_ways s words bytes nine h =
         lack_cases (λ c. P (unless c (frame_found s))) (need s) s.jobs words bytes
         (λ a. late 7 (omega arith) (omega arith)) (λ a b. late 8 (omega arith) (omega arith)) (λ a b c. nine c) (λ a b c. h)
 
     pub answer_ways : (t : List ℕ) (words bytes : ℕ) →
         (let f = (reading_of t).refusal in 1 ≤ number_of f → number_of f ≤ 6 → P (turned_away f)) →
-        ((reading_of t).refusal ≡ Nothing → bytes < (sheetIn t).jobs → P (refused 9 0 0)) →
-        ((reading_of t).refusal ≡ Nothing → P (frame_found (sheetIn t))) → P (answer_of t words bytes)
+        ((reading_of t).refusal ≡ Nothing → bytes < (sheet_in t).jobs → P (refused 9 0 0)) →
+        ((reading_of t).refusal ≡ Nothing → P (frame_found (sheet_in t))) → P (answer_of t words bytes)
     unfolding answer_by answer_to answer_of
-    answer_ways t words bytes a nine h = accepted_ways P (reading_of t).refusal turned_away _ a (λ e. frame_ways (sheetIn t) words bytes (nine e) (h e))
+    answer_ways t words bytes a nine h = accepted_ways P (reading_of t).refusal turned_away _ a (λ e. frame_ways (sheet_in t) words bytes (nine e) (h e))
 
 -- ---- the answer's own reply, with the peak of the plan's run
 
@@ -48,24 +48,24 @@ peak_of (refused number line field) = 0
 peak_of (found s n a (planned js)) = (exact_run s a js).peak
 peak_of (found s n a no_plan) = 0
 
-abbrev pub replyTo : Answer → Reply
-replyTo a = reply_of a (peak_of a)
+abbrev pub reply_to : Answer → Reply
+reply_to a = reply_of a (peak_of a)
 
 peak_found : (s : Sheet) (o : Outcome) → frame.OutcomeDemand3 s (tightened s) s.jobs (start s) o → PeakOf (found s s.jobs (start s) o) (peak_of (found s s.jobs (start s) o))
 peak_found s (planned js) w = record { low = omega arith; high = meets_peak s _ _ js (start s) (omega arith) w.meets }
 peak_found s no_plan w = tt
 
-answers_itself : (a : Answer) (words bytes : List ℕ) → PeakOf a (peak_of a) → Answers a words (table_after a words) bytes (part_after a bytes) (replyTo a)
+answers_itself : (a : Answer) (words bytes : List ℕ) → PeakOf a (peak_of a) → Answers a words (table_after a words) bytes (part_after a bytes) (reply_to a)
 answers_itself (refused number line field) words bytes h = record { reply = refl; table = refl; part = refl; peak = h }
 answers_itself (found s n a (planned js)) words bytes h = record { reply = refl; table = refl; part = refl; peak = h }
 answers_itself (found s n a no_plan) words bytes h = record { reply = refl; table = refl; part = refl; peak = h }
 
 -- The demands hold of the answer itself, with any table and any part lent.
-pub answer-demands : (t words bytes : List ℕ) → let a = answer_of t (length words) (length bytes) in
-    Demands t (length words) (length bytes) (part_after a bytes) (replyTo a)
-answer-demands t words bytes =
+pub answer_demands : (t words bytes : List ℕ) → let a = answer_of t (length words) (length bytes) in
+    Demands t (length words) (length bytes) (part_after a bytes) (reply_to a)
+answer_demands t words bytes =
     let a = answer_of t (length words) (length bytes) in
-    demands_hold t words (table_after a words) bytes (part_after a bytes) (replyTo a)
+    demands_hold t words (table_after a words) bytes (part_after a bytes) (reply_to a)
     (answers_itself a words bytes
     (answer_ways (λ x. PeakOf x (peak_of x)) (λ n l h. tt) t (length words) (length bytes) (λ l h. tt) (λ e h. tt)
-    (λ e. let s = sheetIn t in peak_found s (frame_outcome s) (frame_demand3 s (read_ranges t e)))))
+    (λ e. let s = sheet_in t in peak_found s (frame_outcome s) (frame_demand3 s (read_ranges t e)))))

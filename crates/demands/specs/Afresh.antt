@@ -8,7 +8,7 @@ use Rattle.frame.specs.Demands.{Best, end_time}
 use Rattle.frame.specs.Afresh.{InRange, Readable, jobs_left, tightened_left, Kept}
 use Rattle.refusal.specs.declared.Refusal.TheVariants.{Nothing}
 use Rattle.refusal.specs.Code.{number_of, line_of, field_of}
-use Rattle.sheet.specs.Reading.{reading_of, sheetIn}
+use Rattle.sheet.specs.Reading.{reading_of, sheet_in}
 use Rattle.reply.specs.declared.Reply.{Reply}
 use Rattle.reply.specs.Answer.{refused_reply}
 use Rattle.demands.specs.Demands.{Enough, Memory, Demand3}
@@ -43,4 +43,4 @@ pub record LeftDemands (s : Sheet) (a : State) (words bytes : ℕ) (part : List 
 pub record AfreshDemands (sheet : List ℕ) (a : State) (words bytes : ℕ) (part : List ℕ) (r : Reply) : Type 0 where
   -- a sheet that fails one of checks 1 to 6 is refused for the first that it fails
   pub fails : ¬ ((reading_of sheet).refusal ≡ Nothing) → let f = (reading_of sheet).refusal in r ≡ refused_reply (number_of f) (line_of f) (field_of f)
-  pub passes : (reading_of sheet).refusal ≡ Nothing → LeftDemands (sheetIn sheet) a words bytes part r
+  pub passes : (reading_of sheet).refusal ≡ Nothing → LeftDemands (sheet_in sheet) a words bytes part r

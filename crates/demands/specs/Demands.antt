@@ -9,7 +9,7 @@ use Rattle.frame.specs.Demands.{LevelList, Keeps, Best, Tight, end_time, figures
 use Rattle.frame.specs.Table.{need, words_max}
 use Rattle.refusal.specs.declared.Refusal.TheVariants.{Nothing}
 use Rattle.refusal.specs.Code.{number_of, line_of, field_of}
-use Rattle.sheet.specs.Reading.{reading_of, sheetIn}
+use Rattle.sheet.specs.Reading.{reading_of, sheet_in}
 use Rattle.reply.specs.declared.Reply.{Reply}
 use Rattle.reply.specs.Answer.{refused_reply}
 
@@ -70,4 +70,4 @@ pub record FrameDemands (s : Sheet) (words bytes : ℕ) (part : List ℕ) (r : R
 pub record Demands (sheet : List ℕ) (words bytes : ℕ) (part : List ℕ) (r : Reply) : Type 0 where
   -- a sheet that fails one of checks 1 to 6 is refused for the first that it fails
   pub fails : ¬ ((reading_of sheet).refusal ≡ Nothing) → let f = (reading_of sheet).refusal in r ≡ refused_reply (number_of f) (line_of f) (field_of f)
-  pub passes : (reading_of sheet).refusal ≡ Nothing → FrameDemands (sheetIn sheet) words bytes part r
+  pub passes : (reading_of sheet).refusal ≡ Nothing → FrameDemands (sheet_in sheet) words bytes part r

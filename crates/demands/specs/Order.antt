@@ -25,8 +25,8 @@ unless zero after = after
 unless (suc k) after = refused (suc k) 0 0
 
 -- The answer for a sheet's own frame: 7, 8, 9, and what is found.
-unfoldable pub answerFor : Sheet → ℕ → ℕ → Answer
-answerFor s words bytes = unless (lack_of (need s) s.jobs words bytes) (frame_found s)
+unfoldable pub answer_for : Sheet → ℕ → ℕ → Answer
+answer_for s words bytes = unless (lack_of (need s) s.jobs words bytes) (frame_found s)
 
 -- The answer for the jobs still to do from a reading: 7, 8, 9, then 13, 14 and the reading's 5, and what is found "by the same rule
 -- with the whole frame's limits".
@@ -43,7 +43,7 @@ answer_by r answer = accepted r.refusal turned_away (answer (sheet_of r.head r.s
 
 -- The answer to a sheet that was read, with a table of so many words and a part of so many bytes.
 unfoldable pub answer_to : SheetRead → ℕ → ℕ → Answer
-answer_to r words bytes = answer_by r (λ s. answerFor s words bytes)
+answer_to r words bytes = answer_by r (λ s. answer_for s words bytes)
 
 -- The answer to a sheet.
 unfoldable pub answer_of : List ℕ → ℕ → ℕ → Answer

@@ -11,7 +11,7 @@ use lib.Dec.{eqb, leb, ltb}
 use lib.ListN.{length, get_or, set, replicate, drop, length-drop}
 use borrow.Author.Tests.{le-leb, leb-true, le-ltb, ltb-false, eq-eqb, ne_eqb, eqb-true}
 use Rattle.text.specs.Text.{before, until, beyond, ahead, count, all}
-use Rattle.text.proofs.Text.{before-byte, until-byte, until_hit, until_pass, count_ahead, drop_here, length-until, lt_ahead, all_none, all_on}
+use Rattle.text.proofs.Text.{before_byte, until_byte, until_hit, until_pass, count_ahead, drop_here, length_until, lt_ahead, all_none, all_on}
 use Rattle.text.proofs.Tests.{clash, cond_true, not_so}
 use Rattle.numbers.specs.Number.{is_number, value_from}
 use Rattle.fields.specs.Fields.{Fields, opens, numbers_from, fields_of}
@@ -19,10 +19,10 @@ use Rattle.fields.specs.declared.Fault.{Fault}
 use Rattle.fields.specs.declared.Fault.TheVariants.{Sound, Shape, Form, Range}
 use Rattle.fields.proofs.Fields.{opens_before, opens_letter, opens_tabs}
 use Rattle.fields.proofs.Within.{faulty, malformed, shapeless, passed}
-use Rattle.fast_fields.specs.Take.{takenAt, is_sound, starts, is_taken}
+use Rattle.fast_fields.specs.Take.{taken_at, is_sound, starts, is_taken}
 use Rattle.fast_fields.specs.declared.Taken.TheVariants.{Other}
 use Rattle.fast_fields.proofs.Onward.{all_count, Onward, onward, first_field, one_field}
-use Rattle.fast_fields.proofs.Number.{number_all, number_few, Short, NumberAt, taken-so}
+use Rattle.fast_fields.proofs.Number.{number_all, number_few, Short, NumberAt, taken_so}
 
 -- ---- what is taken
 
@@ -46,9 +46,9 @@ module _ (s : List ℕ) (p room : ℕ) (fault : List ℕ → Fault) where
       let b = cond_true (ahead 10 (drop p s)) _ a.1 in
       record { within = leb-true _ _ a.0; ends = b.0; sound = sound_is _ b.1 }
 
-  pub sound-taken : SoundAt s p room fault → is_taken s p room fault ≡ true
+  pub sound_taken : SoundAt s p room fault → is_taken s p room fault ≡ true
   unfolding is_taken
-  sound-taken z = rw (le-leb _ _ z.within, z.ends, z.sound) refl
+  sound_taken z = rw (le-leb _ _ z.within, z.ends, z.sound) refl
 
 -- ---- the letter
 
@@ -84,14 +84,14 @@ module _ (s : List ℕ) (p letter room : ℕ) where
       let line = until 10 (drop p s) in
       let one = opens_before letter k line e in
       let two = count_ahead 9 line (omega (arith, opens_tabs letter k line e)) in
-      let n = length-until 10 (drop p s) in
+      let n = length_until 10 (drop p s) in
       let z : p + 0 ≡ p = omega arith in
-      let a = ap (λ (i : ℕ). get_or s i 0) (sym z) ∙ sym (until-byte 10 p s 0 (omega arith)) ∙ opens_letter letter k line e in
-      let b = sym (until-byte 10 p s 1 (omega arith)) ∙ ap (λ (i : ℕ). get_or line i 0) (sym one) ∙ before-byte 9 line two in
+      let a = ap (λ (i : ℕ). get_or s i 0) (sym z) ∙ sym (until_byte 10 p s 0 (omega arith)) ∙ opens_letter letter k line e in
+      let b = sym (until_byte 10 p s 1 (omega arith)) ∙ ap (λ (i : ℕ). get_or line i 0) (sym one) ∙ before_byte 9 line two in
       starts_so (record { within = l; first = a; second = b })
 
-eqb-suc : (a b : ℕ) → eqb (suc a) (suc b) ≡ eqb a b
-eqb-suc a b =
+eqb_suc : (a b : ℕ) → eqb (suc a) (suc b) ≡ eqb a b
+eqb_suc a b =
     elim (ℕ_discrete a b) [
       | yes e ↦ eq-eqb (suc a) (suc b) (ap suc e) ∙ sym (eq-eqb a b e)
       | no n ↦ ne_eqb (suc a) (suc b) (λ e. n (omega arith)) ∙ sym (ne_eqb a b n)
@@ -108,7 +108,7 @@ module _ {s : List ℕ} {from letter room : ℕ} (z : Starts s from letter room)
       a ∙ rw (b, f) refl
 
   one_before : before 9 (drop from s) ≡ 1
-  one_before = sym (length-until 9 (drop from s)) ∙ ap length one_letter
+  one_before = sym (length_until 9 (drop from s)) ∙ ap length one_letter
 
   pub starts_onward : Onward s from (from + 2)
   starts_onward =
@@ -123,10 +123,10 @@ module _ {s : List ℕ} {from letter room : ℕ} (z : Starts s from letter room)
   starts_opens k =
       let o = starts_onward in
       let line = until 10 (drop from s) in
-      let a : before 9 line ≡ 1 = sym (length-until 9 line) ∙ ap length o.field ∙ ap length one_letter in
+      let a : before 9 line ≡ 1 = sym (length_until 9 line) ∙ ap length o.field ∙ ap length one_letter in
       let y : from + 0 ≡ from = omega arith in
-      let f : get_or line 0 0 ≡ letter = until-byte 10 from s 0 (omega (arith, o.end)) ∙ rw y z.first in
-      rw (eq-eqb _ _ a, eq-eqb _ _ f, o.tabs) (eqb-suc (count 9 (until 10 (drop (from + 2) s))) k)
+      let f : get_or line 0 0 ≡ letter = until_byte 10 from s 0 (omega (arith, o.end)) ∙ rw y z.first in
+      rw (eq-eqb _ _ a, eq-eqb _ _ f, o.tabs) (eqb_suc (count 9 (until 10 (drop (from + 2) s))) k)
 
 -- ---- numbers
 
@@ -154,16 +154,16 @@ taking_none los his n z high two =
     let o = starts_onward z high two in
     record { ends = o.ends; end = o.end; fields = rw (starts_opens z high two n, o.rest) refl }
 
-shut-not : (b : Bool) (fields : Fields) → (cond b fields shut).fault ≡ Sound → (b ≡ true) × (fields.fault ≡ Sound)
-shut-not true fields e = (refl, e)
-shut-not false fields e = absurd (shapeless e)
+shut_not : (b : Bool) (fields : Fields) → (cond b fields shut).fault ≡ Sound → (b ≡ true) × (fields.fault ≡ Sound)
+shut_not true fields e = (refl, e)
+shut_not false fields e = absurd (shapeless e)
 
 -- A sound line of a letter and numbers starts with them.
 pub fields_starts : (s : List ℕ) (p letter room n : ℕ) (los his : List ℕ) → p + room ≤ length s →
     (fields_of letter (suc n) los his (until 10 (drop p s))).fault ≡ Sound → starts s p letter room ≡ true
 unfolding fields_of
 fields_starts s p letter room n los his l e =
-    opens_starts s p letter room (suc n) (omega arith) l (shut-not (opens letter (suc n) (until 10 (drop p s))) _ e).0
+    opens_starts s p letter room (suc n) (omega arith) l (shut_not (opens letter (suc n) (until 10 (drop p s))) _ e).0
 
 -- The first of the numbers of a sound line has at most 8 digits, where its range ends below 10 ^ 8.
 first_short : (los his : List ℕ) (n j : ℕ) (line vs : List ℕ) → get_or his j 0 < 10 ^ 8 → (numbers_from los his (suc n) j line vs).fault ≡ Sound →
@@ -193,15 +193,15 @@ module _ {s : List ℕ} {from letter k : ℕ} {los his : List ℕ} {j p : ℕ} {
         ends = t.ends ∙ o.ends;
         end = t.end ∙ o.end;
         fields = t.fields
-            ∙ rw (o.tabs, eqb-suc (count 9 (until 10 (drop (e + 1) s))) n, o.field, f.form, le-ltb _ _ f.low, le-ltb _ _ f.high, o.rest, ← z.value) refl;
+            ∙ rw (o.tabs, eqb_suc (count 9 (until 10 (drop (e + 1) s))) n, o.field, f.form, le-ltb _ _ f.low, le-ltb _ _ f.high, o.rest, ← z.value) refl;
       }
 
   -- The last number, and with it the line.
-  pub taking-last : {v e : ℕ} → Taking s from letter k los his 0 j p vs → NumberAt s p 10 (get_or los j 0) (get_or his j 0) v e →
+  pub taking_last : {v e : ℕ} → Taking s from letter k los his 0 j p vs → NumberAt s p 10 (get_or los j 0) (get_or his j 0) v e →
       (ahead 10 (drop from s) ≡ true) × (e ≡ from + before 10 (drop from s))
       × (fields_of letter k los his (until 10 (drop from s)) ≡ record { fault = Sound; values = set vs j v; rest = beyond 9 (until 10 (drop p s)) })
   unfolding numbers_from
-  taking-last t z =
+  taking_last t z =
       let f = z.short in
       let c = all_count 48 57 (omega arith) _ (number_all _ f.form) in (
         t.ends ∙ z.stops,
@@ -211,11 +211,11 @@ module _ {s : List ℕ} {from letter k : ℕ} {los his : List ℕ} {j p : ℕ} {
 
   -- A sound line has the next number.
   pub taking_other : {n : ℕ} → Taking s from letter k los his n j p vs → get_or his j 0 < 10 ^ 8 →
-      takenAt s p (stop_at n) (get_or los j 0) (get_or his j 0) ≡ Other → ahead 10 (drop from s) ≡ true →
+      taken_at s p (stop_at n) (get_or los j 0) (get_or his j 0) ≡ Other → ahead 10 (drop from s) ≡ true →
       (fields_of letter k los his (until 10 (drop from s))).fault ≡ Sound → ⊥
   taking_other {n} t h e a sound =
-      let w = shut-not (eqb (count 9 (until 10 (drop p s))) n) _ (ap (λ (r : Fields). r.fault) (sym t.fields) ∙ sound) in
+      let w = shut_not (eqb (count 9 (until 10 (drop p s))) n) _ (ap (λ (r : Fields). r.fault) (sym t.fields) ∙ sound) in
       let f = first_stop n (drop p s) (sym t.ends ∙ a) (eqb-true _ _ w.0) in
-      let q = taken-so s p (stop_at n) (get_or los j 0) (get_or his j 0) f.0 (rw f.1 (first_short los his n j _ vs h w.1)) in
+      let q = taken_so s p (stop_at n) (get_or los j 0) (get_or his j 0) f.0 (rw f.1 (first_short los his n j _ vs h w.1)) in
       let c : ◌≡◌ {A = ℕ} 0 1 = cc in
       omega arith

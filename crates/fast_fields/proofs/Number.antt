@@ -12,11 +12,11 @@ use lib.Dec.{eqb, leb, ltb}
 use lib.ListN.{length, get_or, drop, length-drop}
 use borrow.Author.Tests.{le-leb, leb-true}
 use Rattle.text.specs.Text.{before, until, ahead, part, all}
-use Rattle.text.proofs.Text.{ahead_lt, lt_ahead, part-all, length-until}
+use Rattle.text.proofs.Text.{ahead_lt, lt_ahead, part_all, length_until}
 use Rattle.text.proofs.Tests.{clash, cond_true, cond_else, not_both}
 use Rattle.numbers.specs.Number.{leading_zero, is_number, value_from}
 use Rattle.numbers.proofs.Number.{number_zero, Digits, digits_zero, digits_low, digits_high, digits_longer, digits_size, digits_empty, digits_form, digits_sum, ends_field}
-use Rattle.fast_fields.specs.Take.{is_short, takenAt}
+use Rattle.fast_fields.specs.Take.{is_short, taken_at}
 use Rattle.fast_fields.specs.declared.Taken.TheVariants.{Number, Other}
 use Rattle.fast_fields.proofs.Onward.{all_first}
 
@@ -77,17 +77,17 @@ module _ (s : List ℕ) (p stop lo hi : ℕ) where
       let c = cond_true (leb lo (value_from 0 t)) _ b.1 in
       record { form = a.0; few = leb-true _ _ b.0; low = leb-true _ _ c.0; high = leb-true _ _ c.1 }
 
-  pub taken-so : ahead stop (drop p s) ≡ true → Short lo hi (until stop (drop p s)) →
-      takenAt s p stop lo hi ≡ Number (value_from 0 (until stop (drop p s))) (p + length (until stop (drop p s)))
-  unfolding takenAt is_short
-  taken-so a z = rw (a, z.form, le-leb _ _ z.few, le-leb _ _ z.low, le-leb _ _ z.high) refl
+  pub taken_so : ahead stop (drop p s) ≡ true → Short lo hi (until stop (drop p s)) →
+      taken_at s p stop lo hi ≡ Number (value_from 0 (until stop (drop p s))) (p + length (until stop (drop p s)))
+  unfolding taken_at is_short
+  taken_so a z = rw (a, z.form, le-leb _ _ z.few, le-leb _ _ z.low, le-leb _ _ z.high) refl
 
-  pub taken_none : (ahead stop (drop p s) ≡ true → Short lo hi (until stop (drop p s)) → ⊥) → takenAt s p stop lo hi ≡ Other
-  unfolding takenAt
+  pub taken_none : (ahead stop (drop p s) ≡ true → Short lo hi (until stop (drop p s)) → ⊥) → taken_at s p stop lo hi ≡ Other
+  unfolding taken_at
   taken_none n = not_both (ahead stop (drop p s)) (is_short lo hi (until stop (drop p s))) _ _ (λ a b. n a (short_is _ b))
 
-  pub taken_number : (v e : ℕ) → takenAt s p stop lo hi ≡ Number v e → NumberAt s p stop lo hi v e
-  unfolding takenAt
+  pub taken_number : (v e : ℕ) → taken_at s p stop lo hi ≡ Number v e → NumberAt s p stop lo hi v e
+  unfolding taken_at
   taken_number v e = go (ahead stop (drop p s)) (is_short lo hi (until stop (drop p s))) refl refl
     where
       go : (a b : Bool) → ahead stop (drop p s) ≡ a → is_short lo hi (until stop (drop p s)) ≡ b →
@@ -95,7 +95,7 @@ module _ (s : List ℕ) (p stop lo hi : ℕ) where
           NumberAt s p stop lo hi v e
       go true true a b q =
           let z = short_is _ b in
-          let l = length-until stop (drop p s) in
+          let l = length_until stop (drop p s) in
           let w : v ≡ value_from 0 (until stop (drop p s)) = cc in
           let y : e ≡ p + length (until stop (drop p s)) = cc in
           record {
@@ -123,16 +123,16 @@ pub record Passed (stop : ℕ) (s : List ℕ) (p k v : ℕ) : Type 0 where
 
 module _ (s : List ℕ) (p stop lo hi k v : ℕ) (z : Digits stop s p (length s) (p + k) v) (h : p + k < length s) where
   field : until stop (part p (length s) s) ≡ until stop (drop p s)
-  field = ap (until stop) (part-all p s)
+  field = ap (until stop) (part_all p s)
 
-  other : is_number (until stop (part p (length s) s)) ≡ false → takenAt s p stop lo hi ≡ Other
+  other : is_number (until stop (part p (length s) s)) ≡ false → taken_at s p stop lo hi ≡ Other
   other e =
       taken_none s p stop lo hi (λ a n.
       let c = clash (sym n.form ∙ sym (ap is_number field) ∙ e) in
       omega arith)
 
   -- The byte behind the digits is not the one that has to end them.
-  pub take_open : (get_or s (p + k) 0 ≡ stop → ⊥) → (8 ≤ k) ⊎ NoDigit (get_or s (p + k) 0) → takenAt s p stop lo hi ≡ Other
+  pub take_open : (get_or s (p + k) 0 ≡ stop → ⊥) → (8 ≤ k) ⊎ NoDigit (get_or s (p + k) 0) → taken_at s p stop lo hi ≡ Other
   take_open n c =
       ⊎_elim
       (λ (l : 8 ≤ k). taken_none s p stop lo hi (λ a m.
@@ -144,15 +144,15 @@ module _ (s : List ℕ) (p stop lo hi k v : ℕ) (z : Digits stop s p (length s)
       c
 
   -- There is no digit.
-  pub take_none : k ≡ 0 → (8 ≤ k) ⊎ NoDigit (get_or s (p + k) 0) → takenAt s p stop lo hi ≡ Other
+  pub take_none : k ≡ 0 → (8 ≤ k) ⊎ NoDigit (get_or s (p + k) 0) → taken_at s p stop lo hi ≡ Other
   take_none q c =
       elim (ℕ_discrete (get_or s (p + k) 0) stop) [
         | yes e ↦ other (digits_empty stop s p (length s) (p + k) v z (ends_field stop s (p + k) (length s) h (omega arith) e) (omega arith))
         | no n ↦ take_open n c
       ]
 
-  pub take-zero : 1 < k → get_or s p 0 ≡ 48 → takenAt s p stop lo hi ≡ Other
-  take-zero l e = other (digits_zero stop s p (length s) (p + k) v z (omega arith) e)
+  pub take_zero : 1 < k → get_or s p 0 ≡ 48 → taken_at s p stop lo hi ≡ Other
+  take_zero l e = other (digits_zero stop s p (length s) (p + k) v z (omega arith) e)
 
   -- The byte behind the digits ends them.
   module _ (e : get_or s (p + k) 0 ≡ stop) where
@@ -165,16 +165,16 @@ module _ (s : List ℕ) (p stop lo hi k v : ℕ) (z : Digits stop s p (length s)
     size : length (until stop (drop p s)) ≡ k
     size = omega (arith, ap length field, digits_size stop s p (length s) (p + k) v z ended)
 
-    pub take_low : v < lo → takenAt s p stop lo hi ≡ Other
+    pub take_low : v < lo → taken_at s p stop lo hi ≡ Other
     take_low l = taken_none s p stop lo hi (λ a n. omega (arith, n.low, sum))
 
-    pub take_high : hi < v → takenAt s p stop lo hi ≡ Other
+    pub take_high : hi < v → taken_at s p stop lo hi ≡ Other
     take_high l = taken_none s p stop lo hi (λ a n. omega (arith, n.high, sum))
 
-    pub take_digits : 0 < k → k ≤ 8 → (k ≤ 1) ⊎ (get_or s p 0 ≡ 48 → ⊥) → lo ≤ v → v ≤ hi → takenAt s p stop lo hi ≡ Number v (p + k)
+    pub take_digits : 0 < k → k ≤ 8 → (k ≤ 1) ⊎ (get_or s p 0 ≡ 48 → ⊥) → lo ≤ v → v ≤ hi → taken_at s p stop lo hi ≡ Number v (p + k)
     take_digits a b c l m =
         let f = ap is_number (sym field)
         ∙ digits_form stop s p (length s) (p + k) v z ended (omega arith) (⊎_elim (λ (x : k ≤ 1). inl (omega arith)) (λ x. inr x) c) in
-        let g = lt_ahead stop (drop p s) (omega (arith, length-until stop (drop p s), size, length-drop p s)) in
-        taken-so s p stop lo hi g (record { form = f; few = omega (arith, size); low = omega (arith, sum); high = omega (arith, sum) })
+        let g = lt_ahead stop (drop p s) (omega (arith, length_until stop (drop p s), size, length-drop p s)) in
+        taken_so s p stop lo hi g (record { form = f; few = omega (arith, size); low = omega (arith, sum); high = omega (arith, sum) })
         ∙ rw (sum, size) refl

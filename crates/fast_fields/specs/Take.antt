@@ -16,8 +16,8 @@ is_short lo hi t =
 
 -- What is taken of the text s at place p: the bytes before the next byte `stop`, where there is one and they are such a number,
 -- with the place of that byte.
-unfoldable pub takenAt : List ℕ → ℕ → ℕ → ℕ → ℕ → Taken
-takenAt s p stop lo hi =
+unfoldable pub taken_at : List ℕ → ℕ → ℕ → ℕ → ℕ → Taken
+taken_at s p stop lo hi =
     let t : List ℕ = until stop (drop p s) in
     cond (ahead stop (drop p s)) (cond (is_short lo hi t) (Number (value_from 0 t) (p + length t)) Other) Other
 

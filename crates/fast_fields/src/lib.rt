@@ -1,7 +1,7 @@
 #![tactic(auto)]
 
 ghost use Rattle.std.specs.Prelude.{◌≡◌, ◌+◌, ◌≤◌, ◌<◌, length};
-ghost use Rattle.fast_fields.specs.Take.{takenAt, starts};
+ghost use Rattle.fast_fields.specs.Take.{taken_at, starts};
 
 use text::TAB;
 
@@ -35,7 +35,7 @@ pub fn starts_with(s: &[u8], from: usize, letter: u8, room: usize) -> bool
 // Takes the number from lo to hi that starts at `at`, has at most 8 digits and ends at a byte `stop`.
 pub fn take_number(s: &[u8], at: usize, stop: u8, lo: u32, hi: u32) -> Taken
     requires { (at + 9 ≤ length s.now) × (stop < 48) }
-    ensures { result ≡ takenAt s.now at stop lo hi }
+    ensures { result ≡ taken_at s.now at stop lo hi }
 {
     let mut v: u32 = 0;
     let mut k: usize = 0;

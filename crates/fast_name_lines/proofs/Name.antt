@@ -11,7 +11,7 @@ use lib.ListN.{length, get_or, drop, length-drop}
 use borrow.Author.Tests.{eq-eqb}
 use Rattle.text.specs.Text.{before, until, ahead, part, all}
 use Rattle.text.specs.Line.{LineAt}
-use Rattle.text.proofs.Text.{before_hit, before_pass, until_hit, until_pass, drop_here, length-until, ahead_lt, lt_ahead, all_low, all_high, all_on, all_none}
+use Rattle.text.proofs.Text.{before_hit, before_pass, until_hit, until_pass, drop_here, length_until, ahead_lt, lt_ahead, all_low, all_high, all_on, all_none}
 use Rattle.text.proofs.Scanned.{line_part}
 use Rattle.text.proofs.Tests.{clash, not_so, not_both}
 use Rattle.fields.specs.Fields.{opens}
@@ -22,8 +22,8 @@ use Rattle.name_lines.specs.Name.{name_max, is_name, name_on, name_fault}
 use Rattle.name_lines.proofs.Name.{name_form, name_all, name_some, name_few}
 use Rattle.fast_fields.specs.Take.{starts, is_taken}
 use Rattle.fast_fields.proofs.Onward.{all_count, Onward}
-use Rattle.fast_fields.proofs.Line.{SoundAt, sound_at, sound-taken, Starts, opens_starts, starts_onward, starts_opens}
-use Rattle.fast_name_lines.specs.Name.{name_end, nameLineMax, name_line_end}
+use Rattle.fast_fields.proofs.Line.{SoundAt, sound_at, sound_taken, Starts, opens_starts, starts_onward, starts_opens}
+use Rattle.fast_name_lines.specs.Name.{name_end, name_line_max, name_line_end}
 
 -- ---- taking a name, by bytes
 
@@ -45,7 +45,7 @@ letters_none s p = let z : p + 0 ≡ p = omega arith in record { rest = rw z ref
 module _ (s : List ℕ) (p : ℕ) where
   pub name_so : ahead 10 (drop p s) ≡ true → is_name (until 10 (drop p s)) ≡ true → name_end s p ≡ p + before 10 (drop p s)
   unfolding name_end
-  name_so a n = rw (a, n, length-until 10 (drop p s)) refl
+  name_so a n = rw (a, n, length_until 10 (drop p s)) refl
 
   pub name_none : (ahead 10 (drop p s) ≡ true → is_name (until 10 (drop p s)) ≡ true → ⊥) → name_end s p ≡ p
   unfolding name_end
@@ -78,13 +78,13 @@ module _ (s : List ℕ) (p k : ℕ) (z : Letters s p k) (h : p + k < length s) w
         record { rest = rw e (byte ∙ all_on 33 126 _ _ a b); size = rw e (omega (arith, more)) }
 
     -- The byte goes on with no name.
-    pub letters-other : (name_max ≤ k) ⊎ ((get_or s (p + k) 0 < 33) ⊎ (126 < get_or s (p + k) 0)) → p ≡ name_end s p
-    letters-other c =
+    pub letters_other : (name_max ≤ k) ⊎ ((get_or s (p + k) 0 < 33) ⊎ (126 < get_or s (p + k) 0)) → p ≡ name_end s p
+    letters_other c =
         let f : (all 33 126 (until 10 (drop p s)) ≡ false) → is_name (until 10 (drop p s)) ≡ true → ⊥ =
         λ e m. let w = clash (sym (name_all _ m) ∙ e) in omega arith in
         sym (name_none s p (λ a m.
         ⊎_elim
-        (λ (l : name_max ≤ k). omega (arith, more, name_few _ m, length-until 10 (drop p s)))
+        (λ (l : name_max ≤ k). omega (arith, more, name_few _ m, length_until 10 (drop p s)))
         (⊎_elim
         (λ (b : get_or s (p + k) 0 < 33). f (byte ∙ all_low 33 126 _ _ b) m)
         (λ (b : 126 < get_or s (p + k) 0). f (byte ∙ all_high 33 126 _ _ (omega arith) b) m))
@@ -95,7 +95,7 @@ module _ (s : List ℕ) (p k : ℕ) (z : Letters s p k) (h : p + k < length s) w
   letters_name l e =
       let d = drop_here s (p + k) h in
       let b : before 10 (drop p s) ≡ k = omega (arith, z.size, ap (before 10) d ∙ before_hit 10 _ _ e) in
-      let n = length-until 10 (drop p s) in
+      let n = length_until 10 (drop p s) in
       elim (ℕ_discrete k 0) [
         | yes q ↦ omega (arith, name_none s p (λ a m. omega (arith, name_some _ m)))
         | no q ↦
@@ -110,12 +110,12 @@ module _ (s : List ℕ) (p k : ℕ) (z : Letters s p k) (h : p + k < length s) w
 -- ---- a line J
 
 module _ (s : List ℕ) (from : ℕ) where
-  pub name_line_none : (is_taken s from nameLineMax name_fault ≡ true → ⊥) → from ≡ name_line_end s from
+  pub name_line_none : (is_taken s from name_line_max name_fault ≡ true → ⊥) → from ≡ name_line_end s from
   unfolding name_line_end
   name_line_none n = rw (not_so _ n) refl
 
   -- A name line has its letter, and its name.
-  name_parts : SoundAt s from nameLineMax name_fault → (opens 74 1 (until 10 (drop from s)) ≡ true) × (is_name (name_on (until 10 (drop from s))) ≡ true)
+  name_parts : SoundAt s from name_line_max name_fault → (opens 74 1 (until 10 (drop from s)) ≡ true) × (is_name (name_on (until 10 (drop from s))) ≡ true)
   unfolding name_fault
   name_parts z = go (opens 74 1 (until 10 (drop from s))) (is_name (name_on (until 10 (drop from s)))) z.sound
     where
@@ -124,14 +124,14 @@ module _ (s : List ℕ) (from : ℕ) where
       go true false e = absurd (malformed 2 e)
       go false b e = absurd (shapeless e)
 
-  pub name_unstarted : starts s from 74 nameLineMax ≡ false → from ≡ name_line_end s from
+  pub name_unstarted : starts s from 74 name_line_max ≡ false → from ≡ name_line_end s from
   name_unstarted e =
       name_line_none (λ t.
-      let z = sound_at s from nameLineMax name_fault t in
-      let c = clash (sym (opens_starts s from 74 nameLineMax 1 (omega arith) z.within (name_parts z).0) ∙ e) in
+      let z = sound_at s from name_line_max name_fault t in
+      let c = clash (sym (opens_starts s from 74 name_line_max 1 (omega arith) z.within (name_parts z).0) ∙ e) in
       omega arith)
 
-  module _ (z : Starts s from 74 nameLineMax) where
+  module _ (z : Starts s from 74 name_line_max) where
     o : Onward s from (from + 2)
     o = starts_onward z (omega arith) (omega arith)
 
@@ -141,19 +141,19 @@ module _ (s : List ℕ) (from : ℕ) where
         let a = starts_opens z (omega arith) (omega arith) 0 ∙ eq-eqb _ _ (all_count 33 126 (omega arith) _ (name_all _ n)) in
         rw (a, o.rest, n) refl
 
-    pub name-line-taken : from + 2 < name_end s (from + 2) → name_end s (from + 2) ≡ name_line_end s from
+    pub name_line_taken : from + 2 < name_end s (from + 2) → name_end s (from + 2) ≡ name_line_end s from
     unfolding name_line_end
-    name-line-taken h =
+    name_line_taken h =
         let n = name_taken s (from + 2) h in
-        let t = sound-taken s from nameLineMax name_fault (record { within = z.within; ends = o.ends ∙ n.0; sound = name_sound n.1 }) in
+        let t = sound_taken s from name_line_max name_fault (record { within = z.within; ends = o.ends ∙ n.0; sound = name_sound n.1 }) in
         rw t (omega (arith, o.end, name_so s (from + 2) n.0 n.1))
 
     pub name_line_left : name_end s (from + 2) ≤ from + 2 → from ≡ name_line_end s from
     name_line_left h =
         name_line_none (λ t.
-        let y = sound_at s from nameLineMax name_fault t in
+        let y = sound_at s from name_line_max name_fault t in
         let n = ap is_name (sym o.rest) ∙ (name_parts y).1 in
-        omega (arith, name_so s (from + 2) (sym o.ends ∙ y.ends) n, name_some _ n, length-until 10 (drop (from + 2) s)))
+        omega (arith, name_so s (from + 2) (sym o.ends ∙ y.ends) n, name_some _ n, length_until 10 (drop (from + 2) s)))
 
 -- A sound line J of the text s starts at place p and ends at place e.
 pub record NameLine (s : List ℕ) (p e : ℕ) : Type 0 where
@@ -163,11 +163,11 @@ pub record NameLine (s : List ℕ) (p e : ℕ) : Type 0 where
 
 pub name_line : (s : List ℕ) (p e : ℕ) → e ≡ name_line_end s p → p < e → NameLine s p e
 unfolding name_line_end
-name_line s p e q h = go (is_taken s p nameLineMax name_fault) refl q
+name_line s p e q h = go (is_taken s p name_line_max name_fault) refl q
   where
-    go : (b : Bool) → is_taken s p nameLineMax name_fault ≡ b → e ≡ cond b (p + before 10 (drop p s)) p → NameLine s p e
+    go : (b : Bool) → is_taken s p name_line_max name_fault ≡ b → e ≡ cond b (p + before 10 (drop p s)) p → NameLine s p e
     go true t w =
-        let z = sound_at s p nameLineMax name_fault t in
+        let z = sound_at s p name_line_max name_fault t in
         let l = ahead_lt 10 (drop p s) z.ends in
         let n = length-drop p s in
         let line : LineAt s p (record { end = e; tabs = 1 }) =

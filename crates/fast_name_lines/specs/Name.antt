@@ -13,9 +13,9 @@ name_end s p =
     cond (ahead 10 (drop p s)) (cond (is_name t) (p + length t) p) p
 
 -- The longest line J: the letter, a byte 9, the name and the byte 10. The constant of the code has the same name.
-abbrev pub nameLineMax : ℕ
-nameLineMax = 2 + name_max + 1
+abbrev pub name_line_max : ℕ
+name_line_max = 2 + name_max + 1
 
 -- The end of the line J that is taken of the text s at place p, or p where none is.
 unfoldable pub name_line_end : List ℕ → ℕ → ℕ
-name_line_end s p = cond (is_taken s p nameLineMax name_fault) (p + before 10 (drop p s)) p
+name_line_end s p = cond (is_taken s p name_line_max name_fault) (p + before 10 (drop p s)) p

@@ -52,9 +52,9 @@ module _ (s : List ℕ) (from to letter k : ℕ) (long : to ≤ length s) where
           ap (before 9) (part_here (from + 1) to s m.0 long) ∙ before_hit 9 (get_or s (from + 1) 0) (part (from + 1 + 1) to s) m.1)
           c
 
-      pub opens-count : (to ≤ from + 1) ⊎ ((from + 1 < to) × (get_or s (from + 1) 0 ≡ 9)) → opens letter k (part from to s) ≡ eqb (count 9 (part from to s)) k
+      pub opens_count : (to ≤ from + 1) ⊎ ((from + 1 < to) × (get_or s (from + 1) 0 ≡ 9)) → opens letter k (part from to s) ≡ eqb (count 9 (part from to s)) k
       unfolding opens
-      opens-count c =
+      opens_count c =
           let f : get_or (part from to s) 0 0 ≡ letter = ap (λ (t : List ℕ). get_or t 0 0) line ∙ e in
           rw (eq-eqb (before 9 (part from to s)) 1 (omega (arith, one, alone c)), eq-eqb (get_or (part from to s) 0 0) letter f) refl
 
@@ -95,10 +95,10 @@ module _ (s : List ℕ) (from to letter k : ℕ) (los his : List ℕ) (h : from 
   unfolding fields_of
   fields_shape e = rw (e, part_none to to s (omega arith)) refl
 
-  pub fields-numbers : (r : Fields) → opens letter k (part from to s) ≡ true →
+  pub fields_numbers : (r : Fields) → opens letter k (part from to s) ≡ true →
       r ≡ numbers_from los his k 0 (part (from + 2) to s) (replicate 10 0) → r ≡ fields_of letter k los his (part from to s)
   unfolding fields_of
-  fields-numbers r e q = rw (e, opens_beyond s from to letter k h long e) q
+  fields_numbers r e q = rw (e, opens_beyond s from to letter k h long e) q
 
 -- ---- numbers
 
@@ -168,8 +168,8 @@ module _ (los his s : List ℕ) (to k j p : ℕ) (vs : List ℕ) (h : j < k) whe
         rw (left, good, same, le-ltb v (get_or los j 0) l, le-ltb (get_or his j 0) v m, n) refl
 
   -- The next field starts within the line, or one place behind it.
-  pub next-within : (v q : ℕ) → field_at p (part p to s) ≡ Number v q → to ≤ length s → p ≤ to + 1 → q ≤ to + 1
-  next-within v q e l m =
+  pub next_within : (v q : ℕ) → field_at p (part p to s) ≡ Number v q → to ≤ length s → p ≤ to + 1 → q ≤ to + 1
+  next_within v q e l m =
       let f = field_number p (part p to s) v q e in
       elim (dec_le p to) [
         | yes n ↦ omega (arith, f.2, before_le 9 (part p to s), length_part p to s l)
@@ -188,12 +188,12 @@ reading_next {los} {his} {s} {at} {to} {first} {k} {old} {values} {p} {j} g h v 
       start = omega (arith, g.start);
       most = omega arith;
       few = g.few;
-      place = next-within los his s to k j p values h v q e g.within g.place;
+      place = next_within los his s to k j p values h v q e g.within g.place;
       within = g.within;
       long = length-set values j v ∙ g.long;
       same = g.same ∙ numbers_on los his s to k j p values h v q e l m;
     }
 
-pub numbers-end : (los his t vs : List ℕ) (k j : ℕ) → k ≤ j → numbers_from los his (k - j) j t vs ≡ record { fault = Sound; values = vs; rest = t }
+pub numbers_end : (los his t vs : List ℕ) (k j : ℕ) → k ≤ j → numbers_from los his (k - j) j t vs ≡ record { fault = Sound; values = vs; rest = t }
 unfolding numbers_from
-numbers-end los his t vs k j h = let z : k - j ≡ 0 = omega arith in rw z refl
+numbers_end los his t vs k j h = let z : k - j ≡ 0 = omega arith in rw z refl

@@ -68,10 +68,10 @@ module _ (los his : List ℕ) where
         behind = λ i a. h.behind i (omega arith) ∙ other i (λ d. omega arith);
       }
 
-  pub numbers-held : (n j : ℕ) (t vs : List ℕ) → j + n ≤ length vs → (numbers_from los his n j t vs).fault ≡ Sound →
+  pub numbers_held : (n j : ℕ) (t vs : List ℕ) → j + n ≤ length vs → (numbers_from los his n j t vs).fault ≡ Sound →
       Held los his n j vs (numbers_from los his n j t vs).values
   unfolding numbers_from
-  numbers-held zero j t vs l e =
+  numbers_held zero j t vs l e =
       record {
         long = refl;
         low = λ i a b. absurd (omega arith);
@@ -79,11 +79,11 @@ module _ (los his : List ℕ) where
         before = λ i a. refl;
         behind = λ i a. refl;
       }
-  numbers-held (suc n) j t vs l e =
+  numbers_held (suc n) j t vs l e =
       let v = value_from 0 (until 9 t) in
       let p = passed (is_number (until 9 t)) (ltb v (get_or los j 0)) (ltb (get_or his j 0) v) _ _ _ (malformed (j + 2)) (faulty (j + 2)) e in
       let m = length-set vs j v in
-      let h = numbers-held n (j + 1) (beyond 9 t) (set vs j v) (omega arith) (ap (λ (r : Fields). r.fault) (sym p.3) ∙ e) in
+      let h = numbers_held n (j + 1) (beyond 9 t) (set vs j v) (omega arith) (ap (λ (r : Fields). r.fault) (sym p.3) ∙ e) in
       subst
       (λ (values : List ℕ). Held los his (suc n) j vs values)
       (ap (λ (r : Fields). r.values) (sym p.3))
@@ -97,5 +97,5 @@ fields_held letter k los his line h = go (opens letter k line)
   where
     go : (b : Bool) → (cond b (numbers_from los his k 0 (beyond 9 line) (replicate 10 0)) (record { fault = Shape; values = replicate 10 0; rest = [] })).fault ≡ Sound →
         Held los his k 0 (replicate 10 0) (cond b (numbers_from los his k 0 (beyond 9 line) (replicate 10 0)) (record { fault = Shape; values = replicate 10 0; rest = [] })).values
-    go true e = numbers-held los his k 0 (beyond 9 line) (replicate 10 0) (omega arith) e
+    go true e = numbers_held los his k 0 (beyond 9 line) (replicate 10 0) (omega arith) e
     go false e = absurd (shapeless e)

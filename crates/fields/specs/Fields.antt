@@ -37,8 +37,8 @@ fields_of letter k los his line =
     (record { fault = Shape; values = replicate 10 0; rest = [] })
 
 -- What was read of a line of the text s that ends at place e.
-abbrev pub numbersIn : List ℕ → ℕ → Numbers → Fields
-numbersIn s e r = record { fault = r.fault; values = r.values; rest = part r.next e s }
+abbrev pub numbers_in : List ℕ → ℕ → Numbers → Fields
+numbers_in s e r = record { fault = r.fault; values = r.values; rest = part r.next e s }
 
 -- What follows a line: where it is sound, what comes next, and else where it stops.
 abbrev pub after : {X : Type 0} → Fault → X → X → X

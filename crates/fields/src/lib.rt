@@ -2,7 +2,7 @@
 
 ghost use Rattle.std.specs.Prelude.{◌≡◌, ◌+◌, ◌-◌, ◌≤◌, length};
 ghost use Rattle.text.specs.Text.{part, count};
-ghost use Rattle.fields.specs.Fields.{opens, numbers_from, numbersIn, fields_of};
+ghost use Rattle.fields.specs.Fields.{opens, numbers_from, numbers_in, fields_of};
 
 use numbers::Field;
 use text::TAB;
@@ -55,7 +55,7 @@ pub fn read_numbers(
     hi: [u32; 10],
 ) -> Numbers
     requires { (at ≤ to + 1) × (to ≤ length s.now) × (first ≤ k) × (k ≤ 10) }
-    ensures result_value { numbersIn s.now to result ≡ numbers_from lo hi (k - first) first (part at to s.now) before }
+    ensures result_value { numbers_in s.now to result ≡ numbers_from lo hi (k - first) first (part at to s.now) before }
     ensures next_bound { result.next ≤ to + 1 }
 {
     let mut values = before;
@@ -107,7 +107,7 @@ pub fn read_fields(
     hi: [u32; 10],
 ) -> Numbers
     requires { (from ≤ to) × (to ≤ length s.now) × (65 ≤ letter) × (tabs ≡ count 9 (part from to s.now)) × (k ≤ 10) }
-    ensures { numbersIn s.now to result ≡ fields_of letter k lo hi (part from to s.now) }
+    ensures { numbers_in s.now to result ≡ fields_of letter k lo hi (part from to s.now) }
 {
     let zeros = [0u32; 10];
     if !opens_with(s, from, to, tabs, letter, k) {

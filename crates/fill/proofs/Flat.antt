@@ -10,9 +10,9 @@ use Rattle.thermal.specs.Rounding.{ceil_div}
 use Rattle.frame.specs.Sheet.{Sheet, Ranges}
 use Rattle.frame.specs.Table.{energy_cells, temperature_cells}
 use Rattle.table.specs.Table.{cells}
-use Rattle.moves.specs.Moves.{moved, shift_of, reachOf}
+use Rattle.moves.specs.Moves.{moved, shift_of, reach_of}
 use Rattle.moves.proofs.Reach.{reach_is, shift_is, reach_none, axis_on}
-use Rattle.follow.specs.Follow.{followsAt}
+use Rattle.follow.specs.Follow.{follows_at}
 use Rattle.table.proofs.Places.{width_some, energy_of, temperature_of}
 use Rattle.fill.specs.Layer.{up_to_at}
 use Rattle.fill.proofs.Moving.{up_lawful, up_unlawful}
@@ -28,7 +28,7 @@ module _ (s : Sheet) (ok : Ranges s) (i p j : ℕ) where
     abbrev row : ℕ
     row = y / temperature_cells s
 
-    lawful : y < reachOf s i p j → (energy ≤ s.energy_budget) × (row * s.energy_step + energy ≤ s.energy_budget)
+    lawful : y < reach_of s i p j → (energy ≤ s.energy_budget) × (row * s.energy_step + energy ≤ s.energy_budget)
     lawful h =
         elim (dec_lt s.energy_budget energy) [
           | yes g ↦ absurd (omega (arith, reach_none s ok i p j g))
@@ -39,7 +39,7 @@ module _ (s : Sheet) (ok : Ranges s) (i p j : ℕ) where
               (e, omega (arith, l))
         ]
 
-    unlawful : reachOf s i p j ≤ y → s.energy_budget < row * s.energy_step + energy
+    unlawful : reach_of s i p j ≤ y → s.energy_budget < row * s.energy_step + energy
     unlawful h =
         elim (dec_lt s.energy_budget energy) [
           | yes g ↦ omega arith
@@ -52,7 +52,7 @@ module _ (s : Sheet) (ok : Ranges s) (i p j : ℕ) where
               ]
         ]
 
-    module _ (h : y < reachOf s i p j) where
+    module _ (h : y < reach_of s i p j) where
       shifted : shift_of s i p j ≡ ceil_div energy s.energy_step * temperature_cells s
       shifted = shift_is s ok i p j (lawful h).0
 
@@ -70,8 +70,8 @@ module _ (s : Sheet) (ok : Ranges s) (i p j : ℕ) where
           (div-lt_iff_lt-mul (width_some s)).0 k
 
       module _ (hi : i < s.jobs) (hp : p < s.levels) (hj : j < s.levels) (hy : y < cells s) where
-        pub up_reach : up_to_at s i p (j + 1) y ≡ min (up_to_at s i p j y) ((moved s i p j).time + followsAt s i j (y + shift_of s i p j))
+        pub up_reach : up_to_at s i p (j + 1) y ≡ min (up_to_at s i p j y) ((moved s i p j).time + follows_at s i j (y + shift_of s i p j))
         up_reach = rw (row_on, cell_on) (up_lawful s ok i p j row (y % temperature_cells s) hi hp hj (energy_of s y hy) (temperature_of s y) (lawful h).1)
 
-    pub up_beyond : i < s.jobs → p < s.levels → j < s.levels → y < cells s → reachOf s i p j ≤ y → up_to_at s i p (j + 1) y ≡ up_to_at s i p j y
+    pub up_beyond : i < s.jobs → p < s.levels → j < s.levels → y < cells s → reach_of s i p j ≤ y → up_to_at s i p (j + 1) y ≡ up_to_at s i p j y
     up_beyond hi hp hj hy h = up_unlawful s ok i p j row (y % temperature_cells s) hi hp hj (energy_of s y hy) (temperature_of s y) (unlawful h)

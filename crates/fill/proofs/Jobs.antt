@@ -16,9 +16,9 @@ use Rattle.open_ways.specs.Moves.{Moving, Lows, relaxed_at}
 use Rattle.relax.specs.Levels.{Levels}
 use Rattle.moves.specs.Moves.{Room, Moves}
 use Rattle.follow.specs.Follow.{Expanded}
-use Rattle.table.proofs.Places.{base_level, base-next, base_mono, base_need}
+use Rattle.table.proofs.Places.{base_level, base_next, base_mono, base_need}
 use Rattle.fill.specs.Layer.{FilledFrom}
-use Rattle.fill.proofs.Layering.{moving, lows, relaxed-word}
+use Rattle.fill.proofs.Layering.{moving, lows, relaxed_word}
 
 module _ (s : Sheet) (ok : Ranges s) (i : ℕ) (hi : i < s.jobs) {shifts reaches times old mid new : List ℕ}
     (w : Moves s i (s.levels * s.levels) shifts reaches times) (x : Expanded s i old mid)
@@ -30,7 +30,7 @@ module _ (s : Sheet) (ok : Ranges s) (i : ℕ) (hi : i < s.jobs) {shifts reaches
 
   -- Outside the job's words.
   other : (q : ℕ) → (q < base s i 0) ⊎ (base s (suc i) 0 ≤ q) → get_or new q 0 ≡ get_or old q 0
-  other q o = v.outside q (⊎_elim (λ l. inl l) (λ l. inr (omega (arith, l, base-next s i 0))) o) ∙ x.kept.outside q o
+  other q o = v.outside q (⊎_elim (λ l. inl l) (λ l. inr (omega (arith, l, base_next s i 0))) o) ∙ x.kept.outside q o
 
   -- Inside them.
   inside : (q : ℕ) → base s i 0 ≤ q → q < base s (suc i) 0 → get_or new q 0 ≡ word_at s q
@@ -38,14 +38,14 @@ module _ (s : Sheet) (ok : Ranges s) (i : ℕ) (hi : i < s.jobs) {shifts reaches
       let r = q - base s i 0 in
       let p = r / cells s in
       let y = r % cells s in
-      let hp : p < s.levels = (div-lt_iff_lt-mul cells_some).1 (omega (arith, base-next s i 0)) in
+      let hp : p < s.levels = (div-lt_iff_lt-mul cells_some).1 (omega (arith, base_next s i 0)) in
       let hy : y < cells s = mod-lt r cells_some in
       let z : base s i 0 + p * cells s + y ≡ q = omega (arith, div-add-mod' r (cells s)) in
-      let e = v.inside p y hp (omega arith) hy ∙ relaxed-word s ok i hi w x.ahead p y hp hy in
+      let e = v.inside p y hp (omega arith) hy ∙ relaxed_word s ok i hi w x.ahead p y hp hy in
       rw (base_level s i p, z) at e
 
-  pub filled-job : FilledFrom s (base s i 0) old new
-  filled-job =
+  pub filled_job : FilledFrom s (base s i 0) old new
+  filled_job =
       record {
         most = omega (arith, f.most, base_mono s i (suc i) (omega arith));
         long = v.long ∙ x.kept.long;
@@ -66,7 +66,7 @@ module _ (s : Sheet) (ok : Ranges s) (i : ℕ) (hi : i < s.jobs) {shifts reaches
   moving_by r = rw (l, c) (moving s ok i hi w r)
 
   pub room_by : at + levels * width ≤ need s
-  room_by = rw (l, c, a) (omega (arith, base-next s i 0, base_mono s (suc i) s.jobs (omega arith), base_need s))
+  room_by = rw (l, c, a) (omega (arith, base_next s i 0, base_mono s (suc i) s.jobs (omega arith), base_need s))
 
   module _ {old mid : List ℕ} (x : Expanded s i old mid) where
     pub lows_by : Lows levels width at 0 mid
@@ -74,4 +74,4 @@ module _ (s : Sheet) (ok : Ranges s) (i : ℕ) (hi : i < s.jobs) {shifts reaches
 
     pub filled_by : {new : List ℕ} → FilledFrom s (base s (suc i) 0) old old →
         Levels mid new at levels width 0 width (λ (p y : ℕ). settled (relaxed_at shifts reaches times mid levels width at p levels y)) → FilledFrom s (base s i 0) old new
-    filled_by f v = filled-job s ok i hi w x (rw (l, c, a) at v) f
+    filled_by f v = filled_job s ok i hi w x (rw (l, c, a) at v) f

@@ -13,9 +13,9 @@ use Rattle.frame.proofs.Table.{digit_lt, digit_div, digit_mod, word_at_place}
 use Rattle.table.specs.Table.{cells, base}
 use Rattle.word.specs.Word.{settled}
 use Rattle.open_ways.specs.Moves.{Moving, Lows, relaxed_at}
-use Rattle.moves.specs.Moves.{moved, shift_of, reachOf, Room, Moves}
+use Rattle.moves.specs.Moves.{moved, shift_of, reach_of, Room, Moves}
 use Rattle.moves.proofs.Reach.{reach_shift, moved_time}
-use Rattle.follow.specs.Follow.{followsAt, Ahead}
+use Rattle.follow.specs.Follow.{follows_at, Ahead}
 use Rattle.table.proofs.Places.{energy_of, temperature_of, base_level, base_word}
 use Rattle.fill.specs.Layer.{up_to_at}
 use Rattle.fill.proofs.Moving.{up_none, up_word, follows_most}
@@ -36,8 +36,8 @@ module _ (s : Sheet) (ok : Ranges s) (i : ℕ) (hi : i < s.jobs) {shifts reaches
     shift_at : get_or shifts number 0 ≡ shift_of s i p j
     shift_at = w.shift number in_square ∙ ap₂ (shift_of s i) (digit_div p j s.levels hj) (digit_mod p j s.levels hj)
 
-    reach_at : get_or reaches number 0 ≡ reachOf s i p j
-    reach_at = w.reach number in_square ∙ ap₂ (reachOf s i) (digit_div p j s.levels hj) (digit_mod p j s.levels hj)
+    reach_at : get_or reaches number 0 ≡ reach_of s i p j
+    reach_at = w.reach number in_square ∙ ap₂ (reach_of s i) (digit_div p j s.levels hj) (digit_mod p j s.levels hj)
 
     time_at : get_or times number 0 ≡ (moved s i p j).time
     time_at = w.time number in_square ∙ ap₂ (λ (x y : ℕ). (moved s i x y).time) (digit_div p j s.levels hj) (digit_mod p j s.levels hj)
@@ -67,13 +67,13 @@ module _ (s : Sheet) (ok : Ranges s) (i : ℕ) (hi : i < s.jobs) {shifts reaches
           let hk : k < s.levels = omega arith in
           let z : k + 1 ≡ suc k = omega arith in
           rw (shift_at p k hp hk, reach_at p k hp hk, time_at p k hp hk, relaxed_up k (omega arith), ← z)
-          (elim (dec_lt y (reachOf s i p k)) [
+          (elim (dec_lt y (reach_of s i p k)) [
             | yes r ↦
-                let e : get_or t (base s i 0 + k * cells s + (y + shift_of s i p k)) 0 ≡ followsAt s i k (y + shift_of s i p k) =
+                let e : get_or t (base s i 0 + k * cells s + (y + shift_of s i p k)) 0 ≡ follows_at s i k (y + shift_of s i p k) =
                 rw (← base_level s i k) (h.words k _ hk (shift_within s ok i p k y r)) in
-                rw (lt-ltb y (reachOf s i p k) r, e) (sym (up_reach s ok i p k y r hi hp hk hy))
-            | no r ↦ rw (le-ltb y (reachOf s i p k) (omega arith)) (sym (up_beyond s ok i p k y hi hp hk hy (omega arith)))
+                rw (lt-ltb y (reach_of s i p k) r, e) (sym (up_reach s ok i p k y r hi hp hk hy))
+            | no r ↦ rw (le-ltb y (reach_of s i p k) (omega arith)) (sym (up_beyond s ok i p k y hi hp hk hy (omega arith)))
           ])
 
-      pub relaxed-word : settled (relaxed_at shifts reaches times t s.levels (cells s) (base s i 0) p s.levels y) ≡ word_at s (base s i p + y)
-      relaxed-word = ap (λ (x : ℕ). settled x) (relaxed_up s.levels (omega arith)) ∙ up_word s ok i p _ _ hi ∙ sym (word_flat s i p y hp hy)
+      pub relaxed_word : settled (relaxed_at shifts reaches times t s.levels (cells s) (base s i 0) p s.levels y) ≡ word_at s (base s i p + y)
+      relaxed_word = ap (λ (x : ℕ). settled x) (relaxed_up s.levels (omega arith)) ∙ up_word s ok i p _ _ hi ∙ sym (word_flat s i p y hp hy)

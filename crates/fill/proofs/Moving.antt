@@ -16,7 +16,7 @@ use Rattle.frame.proofs.Table.{temperature_cell, least_word}
 use Rattle.frame.proofs.Words.{least_bounded, least_small}
 use Rattle.store.specs.Store.{jobs_max}
 use Rattle.table.proofs.Ways.{least_more, least_none, next_at_cell, cost_energy, cost_temperature, cost_within}
-use Rattle.table.proofs.Cells.{at-cell}
+use Rattle.table.proofs.Cells.{at_cell}
 use Rattle.word.specs.Word.{far, near, settled}
 use Rattle.moves.specs.Moves.{moved}
 use Rattle.moves.proofs.Reach.{ceil_add}
@@ -69,7 +69,7 @@ module _ (s : Sheet) (ok : Ranges s) (i p j a b : ℕ) (hi : i < s.jobs) (hp : p
   warm = warmed s i j (b * s.temperature_step)
 
   next_after : next s here j ≡ after
-  next_after = next_at_cell s j (at-cell s ok i p a b hi hp ha hb)
+  next_after = next_at_cell s j (at_cell s ok i p a b hi hp ha hb)
 
   -- The least time after the job is that of the cell to which it leads.
   rest_cell : least s (s.jobs - suc i) after ≡ least s (s.jobs - suc i) (cell s (suc i) j (a + ceil_div energy s.energy_step) (ceil_div warm s.temperature_step))
@@ -119,9 +119,9 @@ module _ (s : Sheet) (ok : Ranges s) (i p j a b : ℕ) (hi : i < s.jobs) (hp : p
       ]
 
   -- Where it has not.
-  way-unlawful : s.energy_budget < a * s.energy_step + energy → way ≡ infeasible
+  way_unlawful : s.energy_budget < a * s.energy_step + energy → way ≡ infeasible
   unfolding via
-  way-unlawful l = rw next_after (cost_energy s after _ (omega (arith, step_energy s i p j (a * s.energy_step) (b * s.temperature_step))))
+  way_unlawful l = rw next_after (cost_energy s after _ (omega (arith, step_energy s i p j (a * s.energy_step) (b * s.temperature_step))))
 
   -- One level more.
   pub up_lawful : a * s.energy_step + energy ≤ s.energy_budget →
@@ -131,7 +131,7 @@ module _ (s : Sheet) (ok : Ranges s) (i p j a b : ℕ) (hi : i < s.jobs) (hp : p
 
   pub up_unlawful : s.energy_budget < a * s.energy_step + energy → up_to s i p (j + 1) a b ≡ up_to s i p j a b
   unfolding up_to
-  up_unlawful l = rw (least_more, way-unlawful l) (omega arith)
+  up_unlawful l = rw (least_more, way_unlawful l) (omega arith)
 
 -- ---- no level, and all levels
 
@@ -152,8 +152,8 @@ follows_most s i j a b =
     ]
 
 -- A time below `far` is a word, and `far` stands for 4,294,967,295.
-settled-near : (w n : ℕ) → w ≤ infeasible → (w < infeasible → w ≤ n * job_most) → n ≤ jobs_max → settled (near w) ≡ w
-settled-near w n h f m =
+settled_near : (w n : ℕ) → w ≤ infeasible → (w < infeasible → w ≤ n * job_most) → n ≤ jobs_max → settled (near w) ≡ w
+settled_near w n h f m =
     elim (dec_lt w infeasible) [
       | yes l ↦ let z : near w ≡ w = omega (arith, f l) in rw (z, lt-ltb w far (omega (arith, f l))) refl
       | no l ↦ let z : near w ≡ far = omega arith in let y : w ≡ infeasible = omega arith in rw (z, y) refl
@@ -167,5 +167,5 @@ pub up_word : (s : Sheet) → Ranges s → (i p a b : ℕ) → i < s.jobs → se
 unfolding up_to word
 up_word s ok i p a b h =
     let n : s.jobs - i ≡ suc (s.jobs - suc i) = omega arith in
-    let w = settled-near (least s (s.jobs - i) (cell s i p a b)) (s.jobs - i) (least_bounded s ok (s.jobs - i) _) (least_small s ok (s.jobs - i) _) (omega (arith, ok.jobs.high)) in
+    let w = settled_near (least s (s.jobs - i) (cell s i p a b)) (s.jobs - i) (least_bounded s ok (s.jobs - i) _) (least_small s ok (s.jobs - i) _) (omega (arith, ok.jobs.high)) in
     ap (λ (x : ℕ). settled (near x)) (sym (least_next s (s.jobs - i) (s.jobs - suc i) _ n)) ∙ w

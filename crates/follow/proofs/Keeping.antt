@@ -12,7 +12,7 @@ use Rattle.table.specs.Table.{base, Holds}
 use Rattle.table.proofs.Cells.{place_from}
 use Rattle.spans.specs.Spans.{Spans}
 use Rattle.follow.specs.Follow.{Kept, Follows, Ahead}
-use Rattle.table.proofs.Places.{base-start, base-before}
+use Rattle.table.proofs.Places.{base_start, base_before}
 
 -- ---- words that are kept
 
@@ -38,7 +38,7 @@ module _ (s : Sheet) where
   holds_kept {i} {lo} {hi} l w h =
       record {
         words = λ hi p x y hp hx hy.
-            w.outside (place s i p x y) (inr (omega (arith, l, base-start s i, place_from s i p x y))) ∙ h.words hi p x y hp hx hy;
+            w.outside (place s i p x y) (inr (omega (arith, l, base_start s i, place_from s i p x y))) ∙ h.words hi p x y hp hx hy;
       }
 
   -- ---- what follows, level by level
@@ -51,7 +51,7 @@ module _ (s : Sheet) where
       record {
         words = λ q y hq hy.
             elim (dec_lt q j) [
-              | yes g ↦ k.kept.outside (base s i q + y) (inl (omega (arith, base-before s i q j g))) ∙ w.words q y g hy
+              | yes g ↦ k.kept.outside (base s i q + y) (inl (omega (arith, base_before s i q j g))) ∙ w.words q y g hy
               | no g ↦ let z : q ≡ j = omega arith in rw z (k.words y hy)
             ];
       }

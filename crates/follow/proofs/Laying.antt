@@ -12,15 +12,15 @@ use Rattle.table.specs.Table.{Axes, cells, base, Holds}
 use Rattle.spans.specs.Spans.{Spans}
 use Rattle.cell_map.specs.Rows.{gathered, finished, Rising}
 use Rattle.next_cells.specs.Next.{next_cell}
-use Rattle.follow.specs.Follow.{followsAt, Kept, Follows}
-use Rattle.table.proofs.Places.{base-next, base-within, cells_by, last_row, atBy, at_is, next_is}
+use Rattle.follow.specs.Follow.{follows_at, Kept, Follows}
+use Rattle.table.proofs.Places.{base_next, base_within, cells_by, last_row, at_by, at_is, next_is}
 use Rattle.next_cells.proofs.Warming.{cell_stays}
-use Rattle.follow.proofs.Rows.{gathered_follows, finished-follows}
+use Rattle.follow.proofs.Rows.{gathered_follows, finished_follows}
 use Rattle.follow.proofs.Keeping.{kept_both, kept_spans, holds_kept}
 
 module _ {s : Sheet} {f : Frame} (g : Axes s f) (i j : ℕ) (hi : i < s.jobs) (hj : j < s.levels) where
   abbrev at : ℕ
-  at = atBy f i j
+  at = at_by f i j
 
   module _ {old mid : List ℕ}
       (m : Spans old mid (at + (f.energy_cells - 1) * f.temperature_cells) (temperature_cells s) (next_cell s i j)) where
@@ -36,7 +36,7 @@ module _ {s : Sheet} {f : Frame} (g : Axes s f) (i j : ℕ) (hi : i < s.jobs) (h
               omega (arith, z, m.inside c (omega (arith, z)), cell_stays s g.ranges i j b c l v);
         }
 
-    module _ {new : List ℕ} {h : ℕ → ℕ} (r : Spans mid new at (f.energy_cells * f.temperature_cells) h) (e : (y : ℕ) → y < cells s → h y ≡ followsAt s i j y) where
+    module _ {new : List ℕ} {h : ℕ → ℕ} (r : Spans mid new at (f.energy_cells * f.temperature_cells) h) (e : (y : ℕ) → y < cells s → h y ≡ follows_at s i j y) where
       laid : Follows s i j old new
       laid =
           record {
@@ -51,9 +51,9 @@ module _ {s : Sheet} {f : Frame} (g : Axes s f) (i j : ℕ) (hi : i < s.jobs) (h
         laid r
         (λ y l.
         rw (next_is g i j hi hj, g.temperature_count)
-        (gathered_follows s i j mid _ (λ b k. rw (← g.temperature_count) (m.inside b k)) hn hj (holds_kept s (omega (arith, base-next s i 0, base-within s i j hj)) map_kept held) y l))
+        (gathered_follows s i j mid _ (λ b k. rw (← g.temperature_count) (m.inside b k)) hn hj (holds_kept s (omega (arith, base_next s i 0, base_within s i j hj)) map_kept held) y l))
 
-    pub finished-laid : {new : List ℕ} → s.jobs ≤ suc i →
+    pub finished_laid : {new : List ℕ} → s.jobs ≤ suc i →
         Spans mid new at (f.energy_cells * f.temperature_cells) (finished mid (at + (f.energy_cells - 1) * f.temperature_cells) f.temperature_cells) →
         Follows s i j old new
-    finished-laid hn r = laid r (λ y l. rw g.temperature_count (finished-follows s i j mid _ (λ b k. rw (← g.temperature_count) (m.inside b k)) hn y))
+    finished_laid hn r = laid r (λ y l. rw g.temperature_count (finished_follows s i j mid _ (λ b k. rw (← g.temperature_count) (m.inside b k)) hn y))

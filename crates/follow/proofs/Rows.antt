@@ -14,13 +14,13 @@ use Rattle.frame.proofs.Table.{digit_div, digit_mod}
 use Rattle.table.specs.Table.{cells, base, Holds}
 use Rattle.cell_map.specs.Rows.{gathered, finished}
 use Rattle.next_cells.specs.Next.{next_cell}
-use Rattle.follow.specs.Follow.{follows, followsAt}
+use Rattle.follow.specs.Follow.{follows, follows_at}
 use Rattle.table.proofs.Places.{energy_of, temperature_of, base_word}
 
 module _ (s : Sheet) (i j : ℕ) (t : List ℕ) (map : ℕ) (m : (b : ℕ) → b < temperature_cells s → get_or t (map + b) 0 ≡ next_cell s i j b) where
   -- Where there is a next job.
   pub gathered_follows : suc i < s.jobs → j < s.levels → Holds s t (suc i) → (y : ℕ) → y < cells s →
-      gathered t map (base s (suc i) j) (temperature_cells s) y ≡ followsAt s i j y
+      gathered t map (base s (suc i) j) (temperature_cells s) y ≡ follows_at s i j y
   unfolding gathered follows word
   gathered_follows hi hj held y hy =
       let b = y % temperature_cells s in
@@ -37,9 +37,9 @@ module _ (s : Sheet) (i j : ℕ) (t : List ℕ) (map : ℕ) (m : (b : ℕ) → b
       ])
 
   -- After the last job.
-  pub finished-follows : s.jobs ≤ suc i → (y : ℕ) → finished t map (temperature_cells s) y ≡ followsAt s i j y
+  pub finished_follows : s.jobs ≤ suc i → (y : ℕ) → finished t map (temperature_cells s) y ≡ follows_at s i j y
   unfolding finished follows least
-  finished-follows h y =
+  finished_follows h y =
       let b = y % temperature_cells s in
       let z : get_or t (map + b) 0 ≡ next_cell s i j b = m b (temperature_of s y) in
       let n : s.jobs - suc i ≡ 0 = omega arith in

@@ -15,8 +15,8 @@ follows s i j a b =
     cond (ltb (next_cell s i j b) (temperature_cells s)) (near (least s (s.jobs - suc i) (cell s (suc i) j a (next_cell s i j b)))) far
 
 -- The same by word y of the level.
-abbrev pub followsAt : Sheet → ℕ → ℕ → ℕ → ℕ
-followsAt s i j y = follows s i j (y / temperature_cells s) (y % temperature_cells s)
+abbrev pub follows_at : Sheet → ℕ → ℕ → ℕ → ℕ
+follows_at s i j y = follows s i j (y / temperature_cells s) (y % temperature_cells s)
 
 -- Words from `lo` to `hi` may have changed, and no others.
 pub record Kept (lo hi : ℕ) (old new : List ℕ) : Type 0 where
@@ -25,12 +25,12 @@ pub record Kept (lo hi : ℕ) (old new : List ℕ) : Type 0 where
 
 -- What follows job i at level j stands in the place of that level's words, and no other word has changed.
 pub record Follows (s : Sheet) (i j : ℕ) (old new : List ℕ) : Type 0 where
-  pub words : (y : ℕ) → y < cells s → get_or new (base s i j + y) 0 ≡ followsAt s i j y
+  pub words : (y : ℕ) → y < cells s → get_or new (base s i j + y) 0 ≡ follows_at s i j y
   pub kept : Kept (base s i j) (base s i j + cells s) old new
 
 -- The words of job i at the first k levels hold what follows.
 pub record Ahead (s : Sheet) (i k : ℕ) (table : List ℕ) : Type 0 where
-  pub words : (j y : ℕ) → j < k → y < cells s → get_or table (base s i j + y) 0 ≡ followsAt s i j y
+  pub words : (j y : ℕ) → j < k → y < cells s → get_or table (base s i j + y) 0 ≡ follows_at s i j y
 
 -- What follows job i stands in the place of its words, and no other word has changed.
 pub record Expanded (s : Sheet) (i : ℕ) (old new : List ℕ) : Type 0 where

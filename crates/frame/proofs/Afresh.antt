@@ -14,7 +14,7 @@ use Rattle.frame.specs.Limits.{Limits, Within, Meets, limits, limits_by}
 use Rattle.frame.specs.Demands.{Below, Keeps, Tight, end_time, no_plan, OutcomeDemand2, OutcomeDemand3}
 use Rattle.frame.specs.Plan.{outcome}
 use Rattle.frame.specs.Afresh.{reading, Readable, jobs_left, tightened_left, ran_to, Kept}
-use Rattle.frame.proofs.Slack.{Near, rounded-sound, left_keeps, lower-meets, lower_run, rounded-above}
+use Rattle.frame.proofs.Slack.{Near, rounded_sound, left_keeps, lower_meets, lower_run, rounded_above}
 use Rattle.frame.proofs.Demand2.{keeps_soon, demand2, demand2_unique}
 use Rattle.frame.proofs.Demand3.{less_tighter, demand3}
 
@@ -29,9 +29,9 @@ module _ (s : Sheet) (r : State → State) where
   run_rest [] ys a = refl
   run_rest (x ∷ xs) ys a = run_rest xs ys (step s (r a) x)
 
-  meets-rest : (k : Limits) (xs ys : List ℕ) (a : State) → Meets s r k a (xs ++ ys) → Meets s r k (run s r a xs) ys
-  meets-rest k [] ys a w = w
-  meets-rest k (x ∷ xs) ys a w = meets-rest k xs ys _ w.1
+  meets_rest : (k : Limits) (xs ys : List ℕ) (a : State) → Meets s r k a (xs ++ ys) → Meets s r k (run s r a xs) ys
+  meets_rest k [] ys a w = w
+  meets_rest k (x ∷ xs) ys a w = meets_rest k xs ys _ w.1
 
 run_done : (s : Sheet) (xs : List ℕ) (a : State) → (exact_run s a xs).done ≡ a.done + length xs
 unfolding step change job
@@ -61,20 +61,20 @@ module _ (s : Sheet) (ok : Ranges s) where
     spent_keeps [] h w = absurd (omega (arith, w.levels.size))
     spent_keeps (j ∷ js) h w = omega (arith, raise_ge s.energy_step a.energy ok.energy_step.low, w.meets.0.energy)
 
-    tight-left : (js : List ℕ) → Tight s (tightened_left s n) n a js → Keeps s s.deadline n a js
+    tight_left : (js : List ℕ) → Tight s (tightened_left s n) n a js → Keeps s s.deadline n a js
     unfolding tightened_left
-    tight-left js t =
+    tight_left js t =
         record {
           levels = t.levels;
           meets = left_keeps s ok (limits s) (tightened_left s n) js a (rw t.levels.size (less_tighter s ok _ _)) t.meets;
         }
 
     -- Energy past its limit is "no plan".
-    pub spent-none : s.energy_budget < a.energy → outcome s n a ≡ no_plan
-    spent-none h = demand2_unique s n a (outcome s n a) no_plan left_demand2 (λ js w. spent_keeps js h w)
+    pub spent_none : s.energy_budget < a.energy → outcome s n a ≡ no_plan
+    spent_none h = demand2_unique s n a (outcome s n a) no_plan left_demand2 (λ js w. spent_keeps js h w)
 
     pub left_demand3 : OutcomeDemand3 s (tightened_left s n) n a (outcome s n a)
-    left_demand3 = demand3 s ok (tightened_left s n) n a tight-left (outcome s n a) left_demand2
+    left_demand3 = demand3 s ok (tightened_left s n) n a tight_left (outcome s n a) left_demand2
 
   -- ---- a kept plan
 
@@ -116,23 +116,23 @@ module _ (s : Sheet) (ok : Ranges s) where
         let i = keeps_inside m (omega (arith, k.done, k.left)) b p l t js w in
         let h =
         ran_inside (take n js) (drop n js) b i
-        (rw (take-append-drop n js) w.levels.below) (rw (take-append-drop n js) (rounded-sound s ok (limits s) js b w.meets)) in
+        (rw (take-append-drop n js) w.levels.below) (rw (take-append-drop n js) (rounded_sound s ok (limits s) js b w.meets)) in
         record { done = k.left; range = omega (arith, h, k, ok.deadline, ok.energy_budget, ok.temperature_limit); temperature = omega (arith, h, k) }
 
     -- The list's remaining jobs keep the limits from there and end no later.
-    pub kept-rest : (d : ℕ) → Keeps s d m b js → Keeps s d (jobs_left s a) a (drop n js) × (end_time s a (drop n js) ≤ end_time s b js)
-    kept-rest d w =
+    pub kept_rest : (d : ℕ) → Keeps s d m b js → Keeps s d (jobs_left s a) a (drop n js) × (end_time s a (drop n js) ≤ end_time s b js)
+    kept_rest d w =
         let xs = take n js in
         let ys = drop n js in
         let q : xs ++ ys ≡ js = take-append-drop n js in
         let u = subst (λ (z : List ℕ). Below s.levels z) (sym q) w.levels.below in
-        let v = meets-rest s (raised s) (limits_by s d) xs ys b (subst (λ (z : List ℕ). Meets s (raised s) (limits_by s d) b z) (sym q) w.meets) in
-        let h : Near 0 0 (rounded_run s b xs) a = omega (arith, kept_near, rounded-above s ok xs b) in
+        let v = meets_rest s (raised s) (limits_by s d) xs ys b (subst (λ (z : List ℕ). Meets s (raised s) (limits_by s d) b z) (sym q) w.meets) in
+        let h : Near 0 0 (rounded_run s b xs) a = omega (arith, kept_near, rounded_above s ok xs b) in
         let t = ap (λ (z : State). z.time) (sym (run_rest s exact xs ys b) ∙ ap (exact_run s b) q) in
         let z = lower_run s ok exact (λ x y l. l) ys (ran_to s b js n) a kept_near in (
           record {
             levels = record { size = length-drop n js ∙ omega (arith, size, k.done); below = below_rest s.levels xs ys u };
-            meets = lower-meets s ok (limits_by s d) ys (rounded_run s b xs) a h v;
+            meets = lower_meets s ok (limits_by s d) ys (rounded_run s b xs) a h v;
           },
           omega (arith, t, z.time),
         )

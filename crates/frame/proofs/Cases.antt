@@ -7,7 +7,7 @@ use Prim.Native.Nat.{ℕ}
 use native.Mathlib.Omega.{arith}
 use Rattle.thermal.specs.Rounding.{ceil_div, raise}
 use Rattle.thermal.specs.Thermal.{steady_state, temperature_after}
-use Rattle.thermal.proofs.Thermal.{rule-keeps}
+use Rattle.thermal.proofs.Thermal.{rule_keeps}
 use Rattle.frame.specs.Run.{start, change, job, step, raised}
 use Rattle.frame.specs.Limits.{energy_slack, temperature_slack, tightened, margins}
 use Rattle.frame.specs.Demands.{Tight, figures}
@@ -26,7 +26,7 @@ expected (c ∷ cs) = c.expected ∷ expected cs
 
 pub cases_hold : (T s : ℕ) → given (cases T s) ≡ expected (cases T s)
 unfolding energy_slack temperature_slack tightened_left margins figures outcome plan choice via least cost next first_within least_of raised step job change need place word energy_cells temperature_cells raise ceil_div steady_state temperature_after
-cases_hold T s = rw (rule-keeps T s) refl
+cases_hold T s = rw (rule_keeps T s) refl
 
 -- Levels 1, 0 meet the tightened limits of demand 3 exactly: 49, 85 − 9 = 76 and 2,698 − 198 = 2,500.
 pub tight_list : Tight (sheet 49 85 2698 10 100) (tightened (sheet 49 85 2698 10 100)) 2 (start (sheet 49 85 2698 10 100)) (1 ∷ 0 ∷ [])

@@ -10,8 +10,8 @@ use Rattle.frame.specs.Sheet.{Sheet}
 use Rattle.frame.specs.Run.{State, exact, raised}
 use Rattle.frame.specs.Plan.{least, choice, plan, outcome}
 use Rattle.frame.specs.Demands.{LexLe, Keeps, end_time, Best, Outcome, planned, no_plan, OutcomeDemand2, infeasible}
-use Rattle.frame.proofs.Run.{same_time, raised_time, run_later, meets-by, meets_time}
-use Rattle.frame.proofs.Plan.{keeps-least, choice-keeps, choice_first}
+use Rattle.frame.proofs.Run.{same_time, raised_time, run_later, meets_by, meets_time}
+use Rattle.frame.proofs.Plan.{keeps_least, choice_keeps, choice_first}
 
 -- ---- the words leave one outcome
 
@@ -43,11 +43,11 @@ module _ (s : Sheet) (n : ℕ) (a : State) where
   keeps_by d e js h k =
       record {
         levels = k.levels;
-        meets = meets-by s (raised s) (raised_time s) d e js a (omega (arith, same_time s js a a refl refl refl)) k.meets;
+        meets = meets_by s (raised s) (raised_time s) d e js a (omega (arith, same_time s js a a refl refl refl)) k.meets;
       }
 
-  pub keeps-time : (d : ℕ) (js : List ℕ) → a.time ≤ d → Keeps s d n a js → end_time s a js ≤ d
-  keeps-time d js h k = rw (same_time s js a a refl refl refl) (meets_time s (raised s) d js a h k.meets)
+  pub keeps_time : (d : ℕ) (js : List ℕ) → a.time ≤ d → Keeps s d n a js → end_time s a js ≤ d
+  keeps_time d js h k = rw (same_time s js a a refl refl refl) (meets_time s (raised s) d js a h k.meets)
 
   -- Where a job is left, a list that keeps a deadline starts by it.
   pub keeps_soon : (d : ℕ) (js : List ℕ) → 1 ≤ n → Keeps s d n a js → a.time ≤ d
@@ -57,22 +57,22 @@ module _ (s : Sheet) (n : ℕ) (a : State) where
   -- No list that keeps the limits ends before the least time.
   pub least_end : (d : ℕ) (js : List ℕ) → Keeps s d n a js → a.time + least s n a ≤ end_time s a js
   least_end d js k =
-      keeps-least s (end_time s a js) n a js (run_later s exact (λ b. refl) js a) (keeps_by d (end_time s a js) js (omega arith) k)
+      keeps_least s (end_time s a js) n a js (run_later s exact (λ b. refl) js a) (keeps_by d (end_time s a js) js (omega arith) k)
 
   module _ (cool : a.peak ≤ s.temperature_limit) (short : least s n a < infeasible) where
     -- The plan ends at the least time, and keeps the limits by it.
     pub plan_keeps : Keeps s (a.time + least s n a) n a (plan s n a)
     unfolding plan
-    plan_keeps = choice-keeps s (a.time + least s n a) n a (least s n a) short (omega arith) cool (omega arith)
+    plan_keeps = choice_keeps s (a.time + least s n a) n a (least s n a) short (omega arith) cool (omega arith)
 
     pub plan_end : end_time s a (plan s n a) ≡ a.time + least s n a
     plan_end =
         let k = plan_keeps in
-        omega (arith, keeps-time (a.time + least s n a) (plan s n a) (omega arith) k, least_end _ (plan s n a) k)
+        omega (arith, keeps_time (a.time + least s n a) (plan s n a) (omega arith) k, least_end _ (plan s n a) k)
 
-    plan-best : a.time + least s n a ≤ s.deadline → Best s n a (plan s n a)
+    plan_best : a.time + least s n a ≤ s.deadline → Best s n a (plan s n a)
     unfolding plan
-    plan-best h =
+    plan_best h =
         let e = plan_end in
         record {
           keeps = keeps_by (a.time + least s n a) s.deadline _ (omega arith) plan_keeps;
@@ -89,6 +89,6 @@ module _ (s : Sheet) (n : ℕ) (a : State) where
   unfolding outcome
   demand2 small cool some =
       elim (dec_le (a.time + least s n a) s.deadline) [
-        | yes h ↦ rw (le-leb (a.time + least s n a) s.deadline h) (plan-best cool (omega arith) h)
-        | no h ↦ rw (lt-leb (a.time + least s n a) s.deadline (omega arith)) (λ js k. omega (arith, keeps-least s s.deadline n a js (keeps_soon s.deadline js some k) k))
+        | yes h ↦ rw (le-leb (a.time + least s n a) s.deadline h) (plan_best cool (omega arith) h)
+        | no h ↦ rw (lt-leb (a.time + least s n a) s.deadline (omega arith)) (λ js k. omega (arith, keeps_least s s.deadline n a js (keeps_soon s.deadline js some k) k))
       ]

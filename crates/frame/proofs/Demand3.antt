@@ -13,7 +13,7 @@ use Rattle.frame.specs.Limits.{Limits, limits, energy_slack, temperature_slack, 
 use Rattle.frame.specs.Plan.{frame_outcome}
 use Rattle.frame.specs.Demands.{Keeps, Outcome, planned, no_plan, OutcomeDemand2, Tight, OutcomeDemand3}
 use Rattle.frame.proofs.Limits.{at_most_sub, Tighter}
-use Rattle.frame.proofs.Slack.{rounded-sound, tighter_keeps}
+use Rattle.frame.proofs.Slack.{rounded_sound, tighter_keeps}
 use Rattle.frame.proofs.Demand2.{demand2}
 
 module _ (s : Sheet) (ok : Ranges s) where
@@ -27,9 +27,9 @@ module _ (s : Sheet) (ok : Ranges s) where
       }
 
   -- The slack has room for the raises of a list of one level for each job.
-  energy-raises : (j : ℕ) (js : List ℕ) → length (j ∷ js) ≡ s.jobs → length js * (s.energy_step - 1) ≤ energy_slack s
+  energy_raises : (j : ℕ) (js : List ℕ) → length (j ∷ js) ≡ s.jobs → length js * (s.energy_step - 1) ≤ energy_slack s
   unfolding energy_slack
-  energy-raises j js l = mul-le-mul_right (s.energy_step - 1) (omega arith)
+  energy_raises j js l = mul-le-mul_right (s.energy_step - 1) (omega arith)
 
   temperature_raises : (j : ℕ) (js : List ℕ) → length (j ∷ js) ≡ s.jobs → length (j ∷ js) * (s.temperature_step - 1) ≤ temperature_slack s
   unfolding temperature_slack
@@ -44,7 +44,7 @@ module _ (s : Sheet) (ok : Ranges s) where
         levels = t.levels;
         meets =
             tighter_keeps s ok (limits s) (tightened s) (energy_slack s) (temperature_slack s) (less_tighter (energy_slack s) (temperature_slack s)) 0 s.start_level s.start_temperature j js
-            (energy-raises j js l) (temperature_raises j js l) t.meets;
+            (energy_raises j js l) (temperature_raises j js l) t.meets;
       }
 
   -- Demand 3 from demand 2 in words, where the lists that meet the tightened limits keep the limits when rounded.
@@ -53,15 +53,15 @@ module _ (s : Sheet) (ok : Ranges s) where
   demand3 k n a f (planned js) b =
       record {
         levels = b.keeps.levels;
-        meets = rounded-sound s ok (limits s) js a b.keeps.meets;
+        meets = rounded_sound s ok (limits s) js a b.keeps.meets;
         no_slower = λ xs t. b.least xs (f xs t);
       }
   demand3 k n a f no_plan b = λ xs t. b xs (f xs t)
 
   -- ---- the sheet's own frame
 
-  pub frame-demand2 : OutcomeDemand2 s s.jobs (start s) (frame_outcome s)
-  frame-demand2 = demand2 s s.jobs (start s) (omega (arith, ok.deadline)) (omega arith) ok.jobs.low
+  pub frame_demand2 : OutcomeDemand2 s s.jobs (start s) (frame_outcome s)
+  frame_demand2 = demand2 s s.jobs (start s) (omega (arith, ok.deadline)) (omega arith) ok.jobs.low
 
   pub frame_demand3 : OutcomeDemand3 s (tightened s) s.jobs (start s) (frame_outcome s)
-  frame_demand3 = demand3 (tightened s) s.jobs (start s) tight_keeps (frame_outcome s) frame-demand2
+  frame_demand3 = demand3 (tightened s) s.jobs (start s) tight_keeps (frame_outcome s) frame_demand2

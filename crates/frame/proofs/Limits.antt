@@ -38,8 +38,8 @@ tighter_same k =
       temperature = λ x m. at_most_less (x + 0) x k.temperature (omega arith) m;
     }
 
-pub tighter-less : (e e' t t' : ℕ) (k k' : Limits) → e ≤ e' → t ≤ t' → Tighter e' t' k k' → Tighter e t k k'
-tighter-less e e' t t' k k' h l c =
+pub tighter_less : (e e' t t' : ℕ) (k k' : Limits) → e ≤ e' → t ≤ t' → Tighter e' t' k k' → Tighter e t k k'
+tighter_less e e' t t' k k' h l c =
     record {
       time = c.time;
       energy = λ x m. at_most_less (x + e) (x + e') k.energy (omega arith) (c.energy x m);

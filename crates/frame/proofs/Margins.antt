@@ -39,12 +39,12 @@ module _ (s : Sheet) where
   end_meets (j ∷ js) a w m = end_meets js (step s a j) m.0 m.1
 
   -- Each margin by itself.
-  pub margins-met : (js : List ℕ) →
+  pub margins_met : (js : List ℕ) →
       ((pos 0 ≤ℤ (margins s js).time) ↔ ((exact_run s (start s) js).time ≤ s.deadline)) ×
       ((pos 0 ≤ℤ (margins s js).energy) ↔ ((exact_run s (start s) js).energy ≤ s.energy_budget)) ×
       ((pos 0 ≤ℤ (margins s js).temperature) ↔ ((exact_run s (start s) js).peak ≤ s.temperature_limit))
   unfolding margins
-  margins-met js =
+  margins_met js =
       let b = exact_run s (start s) js in
       (not_negative s.deadline b.time, not_negative s.energy_budget b.energy, not_negative s.temperature_limit b.peak)
 
@@ -52,7 +52,7 @@ module _ (s : Sheet) where
   pub margins_meet : (js : List ℕ) →
       ((pos 0 ≤ℤ (margins s js).time) × (pos 0 ≤ℤ (margins s js).energy) × (pos 0 ≤ℤ (margins s js).temperature)) ↔ Meets s exact (limits s) (start s) js
   margins_meet js =
-      let e = margins-met js in (
+      let e = margins_met js in (
         λ m. meets_end js (start s) (record { time = e.0.0 m.0; energy = e.1.0 m.1; temperature = e.2.0 m.2 }),
         λ m. let w = end_meets js (start s) (omega arith) m in (e.0.1 w.time, e.1.1 w.energy, e.2.1 w.temperature),
       )

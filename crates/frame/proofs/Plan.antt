@@ -57,9 +57,9 @@ module _ (f : ℕ → ℕ) (x : ℕ) (small : x < infeasible) where
             ]
       ]
 
-cond-le : (b : Bool) (x y : ℕ) → y < infeasible → cond b x infeasible ≤ y → (b ≡ true) × (x ≤ y)
-cond-le true x y l h = (refl, h)
-cond-le false x y l h = absurd (omega arith)
+cond_le : (b : Bool) (x y : ℕ) → y < infeasible → cond b x infeasible ≤ y → (b ≡ true) × (x ≤ y)
+cond_le true x y l h = (refl, h)
+cond_le false x y l h = absurd (omega arith)
 
 module _ (s : Sheet) where
   -- ---- a job's cost
@@ -72,8 +72,8 @@ module _ (s : Sheet) where
       (b.energy ≤ s.energy_budget) × (b.peak ≤ s.temperature_limit) × (b.time + r ≤ x)
   unfolding cost
   cost_lt b r x l h =
-      let u = cond-le (leb b.energy s.energy_budget) _ x l h in
-      let v = cond-le (leb b.peak s.temperature_limit) (min infeasible (b.time + r)) x l u.1 in
+      let u = cond_le (leb b.energy s.energy_budget) _ x l h in
+      let v = cond_le (leb b.peak s.temperature_limit) (min infeasible (b.time + r)) x l u.1 in
       let w = v.1 in
       (leb-true _ _ u.0, leb-true _ _ v.0, omega arith)
 
@@ -87,11 +87,11 @@ module _ (s : Sheet) where
   least_from (suc n) a b d l e t = rw (d, l, e, t) refl
 
   -- The state after a job counts on from the state before.
-  next-step : (a : State) (j : ℕ) →
+  next_step : (a : State) (j : ℕ) →
       ((step s (raised s a) j).time ≡ a.time + (next s a j).time) × ((step s (raised s a) j).energy ≡ (next s a j).energy) ×
       ((step s (raised s a) j).peak ≡ max a.peak (next s a j).peak)
   unfolding next step change job raised
-  next-step a j = omega arith
+  next_step a j = omega arith
 
   least_next : (n : ℕ) (a : State) (j : ℕ) → least s n (step s (raised s a) j) ≡ least s n (next s a j)
   unfolding next step change job raised
@@ -102,14 +102,14 @@ module _ (s : Sheet) where
       (step s (raised s a) j).time + least s n (step s (raised s a) j) ≤ d → a.time + via s (least s n) a j ≤ d
   unfolding via
   via_le d n a j w h =
-      let q = next-step a j in
+      let q = next_step a j in
       omega (arith, least_next n a j, cost_le (next s a j) (least s n (next s a j)) (omega arith) (omega arith))
 
-  via-lt : (d n : ℕ) (a : State) (j x : ℕ) → x < infeasible → a.time + x ≤ d → a.peak ≤ s.temperature_limit → via s (least s n) a j ≤ x →
+  via_lt : (d n : ℕ) (a : State) (j x : ℕ) → x < infeasible → a.time + x ≤ d → a.peak ≤ s.temperature_limit → via s (least s n) a j ≤ x →
       Within (limits_by s d) (step s (raised s a) j) × ((next s a j).time + least s n (step s (raised s a) j) ≤ x)
   unfolding via
-  via-lt d n a j x l c p h =
-      let q = next-step a j in
+  via_lt d n a j x l c p h =
+      let q = next_step a j in
       let u = cost_lt (next s a j) (least s n (next s a j)) x l h in
       let e = least_next n a j in
       (omega arith, omega arith)
@@ -124,8 +124,8 @@ module _ (s : Sheet) (d : ℕ) where
       let r = least_le js (step s (raised s a) j) b.1 w.1 w.0.time in
       omega (arith, via_le s d (length js) a j w.0 r, least_of_le s.levels (via s (least s (length js)) a) j b.0)
 
-  pub keeps-least : (n : ℕ) (a : State) (js : List ℕ) → a.time ≤ d → Keeps s d n a js → a.time + least s n a ≤ d
-  keeps-least n a js h k = rw k.levels.size at (least_le js a k.levels.below k.meets h)
+  pub keeps_least : (n : ℕ) (a : State) (js : List ℕ) → a.time ≤ d → Keeps s d n a js → a.time + least s n a ≤ d
+  keeps_least n a js h k = rw k.levels.size at (least_le js a k.levels.below k.meets h)
 
   -- No list that keeps the limits by d comes before the choice.
   pub choice_first : (js : List ℕ) (a : State) (x : ℕ) → x < infeasible → d ≤ a.time + x → a.time ≤ d → Below s.levels js →
@@ -134,21 +134,21 @@ module _ (s : Sheet) (d : ℕ) where
   choice_first [] a x l c h b w = tt
   choice_first (j ∷ js) a x l c h b w =
       let r = least_le js (step s (raised s a) j) b.1 w.1 w.0.time in
-      let q = next-step s a j in
+      let q = next_step s a j in
       let u = via_le s d (length js) a j w.0 r in (
         first_le (via s (least s (length js)) a) x l s.levels j b.0 (omega arith),
         λ z. rw z (choice_first js (step s (raised s a) j) (x - (next s a j).time) (omega arith) (omega arith) w.0.time b.1 w.1),
       )
 
   -- The choice keeps the limits by d.
-  pub choice-keeps : (n : ℕ) (a : State) (x : ℕ) → x < infeasible → a.time + x ≤ d → a.peak ≤ s.temperature_limit → least s n a ≤ x →
+  pub choice_keeps : (n : ℕ) (a : State) (x : ℕ) → x < infeasible → a.time + x ≤ d → a.peak ≤ s.temperature_limit → least s n a ≤ x →
       Keeps s d n a (choice s n a x)
   unfolding choice least
-  choice-keeps zero a x l c p h = record { levels = record { size = refl; below = tt }; meets = tt }
-  choice-keeps (suc n) a x l c p h =
+  choice_keeps zero a x l c p h = record { levels = record { size = refl; below = tt }; meets = tt }
+  choice_keeps (suc n) a x l c p h =
       let j = first_within s.levels (via s (least s n) a) x in
       let f = first_within_most (via s (least s n) a) x l s.levels h in
-      let u = via-lt s d n a j x l c p f.1 in
-      let q = next-step s a j in
-      let r = choice-keeps n (step s (raised s a) j) (x - (next s a j).time) (omega arith) (omega arith) u.0.temperature (omega arith) in
+      let u = via_lt s d n a j x l c p f.1 in
+      let q = next_step s a j in
+      let r = choice_keeps n (step s (raised s a) j) (x - (next s a j).time) (omega arith) (omega arith) u.0.temperature (omega arith) in
       record { levels = record { size = ap suc r.levels.size; below = (f.0, r.levels.below) }; meets = (u.0, r.meets) }

@@ -43,9 +43,9 @@ module _ (s : Sheet) where
     run_later (j ∷ js) a = let h = run_later js (step s (r a) j) in omega (arith, f a)
 
     -- A list that meets the limits by one deadline meets them by any other that its end keeps.
-    pub meets-by : (d e : ℕ) (js : List ℕ) (a : State) → (run s r a js).time ≤ e → Meets s r (limits_by s d) a js → Meets s r (limits_by s e) a js
-    meets-by d e [] a h w = tt
-    meets-by d e (j ∷ js) a h w = let q = run_later js (step s (r a) j) in (omega arith, meets-by d e js _ h w.1)
+    pub meets_by : (d e : ℕ) (js : List ℕ) (a : State) → (run s r a js).time ≤ e → Meets s r (limits_by s d) a js → Meets s r (limits_by s e) a js
+    meets_by d e [] a h w = tt
+    meets_by d e (j ∷ js) a h w = let q = run_later js (step s (r a) j) in (omega arith, meets_by d e js _ h w.1)
 
   pub meets_time : (r : State → State) (d : ℕ) (js : List ℕ) (a : State) → a.time ≤ d → Meets s r (limits_by s d) a js → (run s r a js).time ≤ d
   meets_time r d [] a h w = h
@@ -83,5 +83,5 @@ module _ (s : Sheet) where
         )
 
     -- From a fresh state, whatever the limits: they are met after every job exactly where every job end's figures meet them.
-    pub meets-each-end : (i p e t : ℕ) (js : List ℕ) → Meets s r k (fresh i p e t) js ↔ AtEachEnd s r k (fresh i p e t) js
-    meets-each-end i p e t js = each_end js (fresh i p e t) (λ x m. at_most_less (max 0 x) x k.temperature (omega arith) m)
+    pub meets_each_end : (i p e t : ℕ) (js : List ℕ) → Meets s r k (fresh i p e t) js ↔ AtEachEnd s r k (fresh i p e t) js
+    meets_each_end i p e t js = each_end js (fresh i p e t) (λ x m. at_most_less (max 0 x) x k.temperature (omega arith) m)

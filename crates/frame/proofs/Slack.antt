@@ -12,7 +12,7 @@ use Rattle.thermal.proofs.Thermal.{rule_nonexpansive}
 use Rattle.frame.specs.Sheet.{Sheet, Ranges, steady_of}
 use Rattle.frame.specs.Run.{State, fresh, change, job, step, exact, raised, run, exact_run, rounded_run}
 use Rattle.frame.specs.Limits.{Limits, Within, Meets}
-use Rattle.frame.proofs.Limits.{at_most_less, Tighter, tighter_same, tighter-less}
+use Rattle.frame.proofs.Limits.{at_most_less, Tighter, tighter_same, tighter_less}
 
 -- b has done the same jobs as a, at the same level and no later, with at most e more energy and t more temperature. For 0
 -- and 0 it lies nowhere above a.
@@ -66,7 +66,7 @@ module _ (s : Sheet) (ok : Ranges s) where
     near_meets [] e t a b x y h w = tt
     near_meets (j ∷ js) e t a b x y h w =
         let h' = near_step (e + u) (t + v) (r a) (q b) j (f e t a b (omega arith) (omega arith) h) in (
-          within_near (e + u) (t + v) k k' _ _ (tighter-less (e + u) E (t + v) T k k' (omega arith) (omega arith) c) h' w.0,
+          within_near (e + u) (t + v) k k' _ _ (tighter_less (e + u) E (t + v) T k k' (omega arith) (omega arith) c) h' w.0,
           near_meets js (e + u) (t + v) _ _ (omega arith) (omega arith) h' w.1,
         )
 
@@ -78,8 +78,8 @@ module _ (s : Sheet) (ok : Ranges s) where
       omega (arith, raise_ge s.energy_step a.energy ok.energy_step.low, raise_ge s.temperature_step a.temperature ok.temperature_step.low)
 
   -- A list that meets limits when rounded meets them in the exact run, after every job.
-  pub rounded-sound : (k : Limits) (js : List ℕ) (a : State) → Meets s (raised s) k a js → Meets s exact k a js
-  rounded-sound k js a w =
+  pub rounded_sound : (k : Limits) (js : List ℕ) (a : State) → Meets s (raised s) k a js → Meets s exact k a js
+  rounded_sound k js a w =
       near_meets k k 0 0 (tighter_same k) (raised s) exact 0 0 below_raised js 0 0 a a (omega arith) (omega arith) (near_self a) w
 
   -- ---- the rounded run lies at most one raise for each job above the exact run
@@ -102,7 +102,7 @@ module _ (s : Sheet) (ok : Ranges s) where
       let u = s.energy_step - 1 in
       let v = s.temperature_step - 1 in
       let h = near_step 0 v (fresh i p 0 t) (raised s (fresh i p 0 t)) j (above_start i p t) in (
-        within_near 0 v k k' _ _ (tighter-less 0 E v T k k' (omega arith) (omega arith) c) h w.0,
+        within_near 0 v k k' _ _ (tighter_less 0 E v T k k' (omega arith) (omega arith) c) h w.0,
         near_meets k k' E T c exact (raised s) u v (λ e d a b _ _ n. above_raised e d a b n) js 0 v _ _ (omega arith) (omega arith) h w.1,
       )
 
@@ -114,15 +114,15 @@ module _ (s : Sheet) (ok : Ranges s) where
 
   -- ---- a run from what is read, nowhere above
 
-  both-raised : (e t : ℕ) (a b : State) → e ≤ 0 → t ≤ 0 → Near e t a b → Near (e + 0) (t + 0) (raised s a) (raised s b)
+  both_raised : (e t : ℕ) (a b : State) → e ≤ 0 → t ≤ 0 → Near e t a b → Near (e + 0) (t + 0) (raised s a) (raised s b)
   unfolding raised
-  both-raised e t a b x y h =
+  both_raised e t a b x y h =
       omega (arith, raise_mono s.energy_step b.energy a.energy ok.energy_step.low (omega arith), raise_mono s.temperature_step b.temperature a.temperature ok.temperature_step.low (omega arith))
 
   -- What a rounded run meets, one from nowhere above meets too.
-  pub lower-meets : (k : Limits) (js : List ℕ) (a b : State) → Near 0 0 a b → Meets s (raised s) k a js → Meets s (raised s) k b js
-  lower-meets k js a b h w =
-      near_meets k k 0 0 (tighter_same k) (raised s) (raised s) 0 0 both-raised js 0 0 a b (omega arith) (omega arith) h w
+  pub lower_meets : (k : Limits) (js : List ℕ) (a b : State) → Near 0 0 a b → Meets s (raised s) k a js → Meets s (raised s) k b js
+  lower_meets k js a b h w =
+      near_meets k k 0 0 (tighter_same k) (raised s) (raised s) 0 0 both_raised js 0 0 a b (omega arith) (omega arith) h w
 
   module _ (r : State → State) (f : (a b : State) → Near 0 0 a b → Near 0 0 (r a) b) where
     -- An exact run from nowhere above stays nowhere above.
@@ -130,5 +130,5 @@ module _ (s : Sheet) (ok : Ranges s) where
     lower_run [] a b h = h
     lower_run (j ∷ js) a b h = lower_run js _ _ (near_step 0 0 (r a) b j (f a b h))
 
-  pub rounded-above : (js : List ℕ) (a : State) → Near 0 0 (rounded_run s a js) (exact_run s a js)
-  rounded-above js a = lower_run (raised s) (λ x y h. below_raised 0 0 x y (omega arith) (omega arith) h) js a a (near_self a)
+  pub rounded_above : (js : List ℕ) (a : State) → Near 0 0 (rounded_run s a js) (exact_run s a js)
+  rounded_above js a = lower_run (raised s) (λ x y h. below_raised 0 0 x y (omega arith) (omega arith) h) js a a (near_self a)

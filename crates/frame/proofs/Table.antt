@@ -101,9 +101,9 @@ module _ (s : Sheet) (ok : Ranges s) where
   next_raised a j =
       rw (raise_twice s.energy_step a.energy ok.energy_step.low, raise_twice s.temperature_step a.temperature ok.temperature_step.low) refl
 
-  pub least-raised : (n : ℕ) (a : State) → least s (suc n) (raised s a) ≡ least s (suc n) a
+  pub least_raised : (n : ℕ) (a : State) → least s (suc n) (raised s a) ≡ least s (suc n) a
   unfolding least via
-  least-raised n a = ap (least_of s.levels) (fun_ext (λ j. ap (λ (b : State). cost s b (least s n b)) (next_raised a j)))
+  least_raised n a = ap (least_of s.levels) (fun_ext (λ j. ap (λ (b : State). cost s b (least s n b)) (next_raised a j)))
 
   -- The least time of the remaining jobs is a word of the table: that of the cell to which the state is raised. So the start
   -- state has a word, and a word is made of the words of one more job done.
@@ -112,7 +112,7 @@ module _ (s : Sheet) (ok : Ranges s) where
   unfolding word raised raise
   least_word a h =
       let n : s.jobs - a.done ≡ suc (s.jobs - suc a.done) = omega arith in
-      rw n (sym (least-raised (s.jobs - suc a.done) a) ∙ least_from s (suc (s.jobs - suc a.done)) (raised s a) _ refl refl refl refl)
+      rw n (sym (least_raised (s.jobs - suc a.done) a) ∙ least_from s (suc (s.jobs - suc a.done)) (raised s a) _ refl refl refl refl)
 
   -- The start state's word, with which the deadline is compared: energy 0 is cell 0.
   pub start_word : least s s.jobs (start s) ≡ word s 0 s.start_level 0 (ceil_div s.start_temperature s.temperature_step)

@@ -10,9 +10,9 @@ use lib.Dec.{leb}
 use borrow.Author.Tests.{le-leb}
 use lib.ListN.{get_or, get_or-eq_default}
 use Rattle.thermal.specs.Thermal.{steady_state}
-use Rattle.thermal.proofs.Steady.{steady-within}
+use Rattle.thermal.proofs.Steady.{steady_within}
 use Rattle.frame.specs.Sheet.{Sheet, Ranges, steady_of}
-use Rattle.frame.specs.Cases.{entry, printedL, printed_s, printed_b, sheet}
+use Rattle.frame.specs.Cases.{entry, printed_l, printed_s, printed_b, sheet}
 
 -- Every number of a list is at most hi, and so is what is read at any place.
 abbrev Most : ℕ → List ℕ → Type 0
@@ -38,7 +38,7 @@ abbrev printed : Sheet
 printed = sheet 50 100 2500 10 100
 
 steady_most : (j : ℕ) → steady_of printed j ≤ 20000
-steady_most j = steady-within (printed.power j) 2000 20000 (omega (arith, get_d_most 20000 printedL j (omega arith)))
+steady_most j = steady_within (printed.power j) 2000 20000 (omega (arith, get_d_most 20000 printed_l j (omega arith)))
 
 stay : (p : ℕ) → (printed.change_time p p ≡ 0) × (printed.change_energy p p ≡ 0)
 stay zero = (refl, refl)
@@ -56,8 +56,8 @@ time_least (suc zero) (suc zero) h k = omega arith
 time_least (suc zero) (suc (suc j)) h k = absurd (omega arith)
 time_least (suc (suc i)) j h k = absurd (omega arith)
 
-pub printed-ranges : Ranges printed
-printed-ranges =
+pub printed_ranges : Ranges printed
+printed_ranges =
     record {
       jobs = omega arith;
       levels = omega arith;
@@ -69,7 +69,7 @@ printed-ranges =
       resistance = omega arith;
       energy_step = omega arith;
       temperature_step = omega arith;
-      power = λ j. get_d_most 100000 printedL j (omega arith);
+      power = λ j. get_d_most 100000 printed_l j (omega arith);
       steady = steady_most;
       change_time = λ p j. entry_most 10000000 0 printed_s (p * 2 + j) (omega arith);
       change_energy = λ p j. entry_most 10000000 1 printed_s (p * 2 + j) (omega arith);
@@ -165,8 +165,8 @@ bottom =
       decay = λ i j. 0;
     }
 
-pub bottom-ranges : Ranges bottom
-bottom-ranges =
+pub bottom_ranges : Ranges bottom
+bottom_ranges =
     record {
       jobs = omega arith;
       levels = omega arith;
@@ -179,7 +179,7 @@ bottom-ranges =
       energy_step = omega arith;
       temperature_step = omega arith;
       power = λ j. omega arith;
-      steady = λ j. steady-within 0 0 20000 (omega arith);
+      steady = λ j. steady_within 0 0 20000 (omega arith);
       change_time = λ a b. omega arith;
       change_energy = λ a b. omega arith;
       stay = λ a. (refl, refl);

@@ -35,8 +35,8 @@ module _ (s : Sheet) (ok : Ranges s) where
   run_short (j ∷ js) a =
       omega (arith, run_short js (step s a j), ok.change_time a.level j, ok.job_time a.done j)
 
-  list-short : (n : ℕ) (a : State) (js : List ℕ) → LevelList s n js → end_time s a js ≤ a.time + n * job_most
-  list-short n a js l = rw l.size at (run_short js a)
+  list_short : (n : ℕ) (a : State) (js : List ℕ) → LevelList s n js → end_time s a js ≤ a.time + n * job_most
+  list_short n a js l = rw l.size at (run_short js a)
 
   pub least_bounded : (n : ℕ) (a : State) → least s n a ≤ infeasible
   unfolding least
@@ -54,7 +54,7 @@ module _ (s : Sheet) (ok : Ranges s) where
           reached = λ l. (plan s n a, plan_feasible l, plan_end s n a cool l);
           least = λ js f. least_end s n a _ js f;
           none = (
-            λ e js f. omega (arith, least_end s n a _ js f, list-short n a js f.levels),
+            λ e js f. omega (arith, least_end s n a _ js f, list_short n a js f.levels),
             λ h. elim (dec_lt (least s n a) infeasible) [
               | yes l ↦ absurd (h (plan s n a) (plan_feasible l))
               | no l ↦ omega (arith, least_bounded n a)
@@ -63,9 +63,9 @@ module _ (s : Sheet) (ok : Ranges s) where
         }
 
   -- Every word of the table, cells above C and cells that no run reaches included.
-  pub word-least : (i p x y : ℕ) → LeastTime s (s.jobs - i) (cell s i p x y) (word s i p x y)
+  pub word_least : (i p x y : ℕ) → LeastTime s (s.jobs - i) (cell s i p x y) (word s i p x y)
   unfolding word
-  word-least i p x y = least_time (s.jobs - i) (omega (arith, ok.jobs.high)) (cell s i p x y) (omega arith)
+  word_least i p x y = least_time (s.jobs - i) (omega (arith, ok.jobs.high)) (cell s i p x y) (omega arith)
 
   -- A least time is 4,294,967,295 or far below it: at most 20 seconds a job.
   pub least_small : (n : ℕ) (a : State) → least s n a < infeasible → least s n a ≤ n * job_most
@@ -73,4 +73,4 @@ module _ (s : Sheet) (ok : Ranges s) where
       let b = fresh a.done a.level a.energy a.temperature in
       let q : least s n a ≡ least s n b = least_from s n a b refl refl refl refl in
       let h : least s n b < infeasible = omega arith in
-      omega (arith, plan_end s n b (omega arith) h, list-short n b (plan s n b) (plan_keeps s n b (omega arith) h).levels)
+      omega (arith, plan_end s n b (omega arith) h, list_short n b (plan s n b) (plan_keeps s n b (omega arith) h).levels)

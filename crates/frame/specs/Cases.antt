@@ -53,8 +53,8 @@ sheet_from H L S B =
     }
 
 -- The printed sheet's L, S and B lines.
-abbrev pub printedL : List ℕ
-printedL = 10000 ∷ 20000 ∷ []
+abbrev pub printed_l : List ℕ
+printed_l = 10000 ∷ 20000 ∷ []
 
 abbrev pub printed_s : List (List ℕ)
 printed_s = (0 ∷ 0 ∷ []) ∷ (2 ∷ 3 ∷ []) ∷ (1 ∷ 3 ∷ []) ∷ (0 ∷ 0 ∷ []) ∷ []
@@ -64,7 +64,7 @@ printed_b = (30 ∷ 20 ∷ 32768 ∷ []) ∷ (18 ∷ 45 ∷ 32768 ∷ []) ∷ (2
 
 -- The printed sheet, with D, W, C, g and h as named.
 abbrev pub sheet : ℕ → ℕ → ℕ → ℕ → ℕ → Sheet
-sheet D W C g h = sheet_from (2 ∷ 2 ∷ 0 ∷ D ∷ W ∷ C ∷ 1000 ∷ 2000 ∷ g ∷ h ∷ []) printedL printed_s printed_b
+sheet D W C g h = sheet_from (2 ∷ 2 ∷ 0 ∷ D ∷ W ∷ C ∷ 1000 ∷ 2000 ∷ g ∷ h ∷ []) printed_l printed_s printed_b
 
 -- "A sheet of its own with one job, two equal levels, free changes, that has a plan".
 abbrev pub equal_levels : Sheet

@@ -14,7 +14,7 @@ use Rattle.fields.specs.declared.Fault.{Fault}
 use Rattle.fields.specs.declared.Fault.TheVariants.{Sound, Shape, Form, Range}
 use Rattle.fields.proofs.Fields.{opens_beyond}
 use Rattle.fields.proofs.Faults.{FieldLe, numbers_field}
-use Rattle.fields.proofs.Within.{Held, faulty, malformed, shapeless, numbers-held, cond_cases}
+use Rattle.fields.proofs.Within.{Held, faulty, malformed, shapeless, numbers_held, cond_cases}
 use Rattle.fields.proofs.After.{Other, after_cases, after_other}
 use Rattle.store.specs.Store.{jobs_max, levels_max}
 use Rattle.head.specs.Head.{head_los, head_his, head_fields}
@@ -71,9 +71,9 @@ after_sound Shape stop go q e = absurd (shapeless (sym q ∙ e))
 after_sound (Form k) stop go q e = absurd (malformed k (sym q ∙ e))
 after_sound (Range k) stop go q e = absurd (faulty k (sym q ∙ e))
 
-cond-sound : (b : Bool) (x y : Fields) → (y.fault ≡ Sound → ⊥) → (cond b x y).fault ≡ Sound → (x.fault ≡ Sound) × (cond b x y ≡ x)
-cond-sound true x y n e = (e, refl)
-cond-sound false x y n e = absurd (n e)
+cond_sound : (b : Bool) (x y : Fields) → (y.fault ≡ Sound → ⊥) → (cond b x y).fault ≡ Sound → (x.fault ≡ Sound) × (cond b x y ≡ x)
+cond_sound true x y n e = (e, refl)
+cond_sound false x y n e = absurd (n e)
 
 pub head_held : (line : List ℕ) → (head_fields line).fault ≡ Sound →
     Held head_los (head_his (get_or (head_fields line).values 1 0 - 1)) 10 0 (replicate 10 0) (head_fields line).values
@@ -81,11 +81,11 @@ unfolding head_fields
 head_held line e =
     let two = numbers_from head_los (head_his 0) 2 0 (beyond 9 line) (replicate 10 0) in
     let fields = numbers_from head_los (head_his (get_or two.values 1 0 - 1)) 8 2 two.rest two.values in
-    let a = cond-sound (opens 72 10 line) (after two.fault two fields) (record { fault = Shape; values = replicate 10 0; rest = [] }) shapeless e in
+    let a = cond_sound (opens 72 10 line) (after two.fault two fields) (record { fault = Shape; values = replicate 10 0; rest = [] }) shapeless e in
     let b = after_sound two.fault two fields refl a.0 in
     let q = a.1 ∙ b.1 in
-    let h = numbers-held head_los (head_his 0) 2 0 (beyond 9 line) (replicate 10 0) (omega arith) b.0 in
-    let g = numbers-held head_los (head_his (get_or two.values 1 0 - 1)) 8 2 two.rest two.values (omega (arith, h.long)) (ap (λ (r : Fields). r.fault) (sym q) ∙ e) in
+    let h = numbers_held head_los (head_his 0) 2 0 (beyond 9 line) (replicate 10 0) (omega arith) b.0 in
+    let g = numbers_held head_los (head_his (get_or two.values 1 0 - 1)) 8 2 two.rest two.values (omega (arith, h.long)) (ap (λ (r : Fields). r.fault) (sym q) ∙ e) in
     rw q (head_both (get_or two.values 1 0 - 1) two.values fields.values h.long h refl g)
 
 -- The field of a fault.

@@ -25,8 +25,8 @@ head_as version vs =
     }
 
 -- "V, version: 1."; V is byte 86
-unfoldable pub versionFields : List ℕ → Fields
-versionFields line = fields_of 86 1 (1 ∷ replicate 9 0) (1 ∷ replicate 9 0) line
+unfoldable pub version_fields : List ℕ → Fields
+version_fields line = fields_of 86 1 (1 ∷ replicate 9 0) (1 ∷ replicate 9 0) line
 
 -- The lower ends of the H line's figures.
 abbrev pub head_los : List ℕ

@@ -3,8 +3,8 @@
 // The first two lines of a sheet, V and H: their figures, or the first fault of a line.
 ghost use Rattle.std.specs.Prelude.{◌≡◌, ◌-◌, ◌≤◌, length};
 ghost use Rattle.text.specs.Text.{part, count};
-ghost use Rattle.fields.specs.Fields.{numbersIn};
-ghost use Rattle.head.specs.Head.{head_as, versionFields, head_fields};
+ghost use Rattle.fields.specs.Fields.{numbers_in};
+ghost use Rattle.head.specs.Head.{head_as, version_fields, head_fields};
 
 use fields::{Fault, Numbers};
 use store::{Head, JOBS_MAX, LEVELS_MAX, LIMIT_MAX, RESISTANCE_MAX, TEMPERATURE_MAX};
@@ -48,7 +48,7 @@ pub fn head_of(version: u32, values: [u32; 10]) -> Head
 // Reads the number of a V line.
 pub fn read_version(s: &[u8], from: usize, to: usize, tabs: usize) -> Numbers
     requires { (from ≤ to) × (to ≤ length s.now) × (tabs ≡ count 9 (part from to s.now)) }
-    ensures { numbersIn s.now to result ≡ versionFields (part from to s.now) }
+    ensures { numbers_in s.now to result ≡ version_fields (part from to s.now) }
 {
     let version = VERSION;
     fields::read_fields(s, from, to, tabs, b'V', 1, version, version)
@@ -64,7 +64,7 @@ fn less_one(x: u32) -> u32
 // Reads the numbers of an H line: the start level is below the number of levels.
 pub fn read_head(s: &[u8], from: usize, to: usize, tabs: usize) -> Numbers
     requires { (from ≤ to) × (to ≤ length s.now) × (tabs ≡ count 9 (part from to s.now)) }
-    ensures { numbersIn s.now to result ≡ head_fields (part from to s.now) }
+    ensures { numbers_in s.now to result ≡ head_fields (part from to s.now) }
 {
     let zeros = [0u32; 10];
     if !fields::opens_with(s, from, to, tabs, b'H', 10) {

@@ -65,8 +65,8 @@ module _ (table froms times : List ℕ) (count q : ℕ) where
       let s : k + n + j ≡ k + (j + n) = omega arith in
       rw (z, s) (omega (arith, within_join k n j))
 
-  pub places-join : {a b : ℕ} (k n j r : ℕ) → TimeOf (within k n) a → TimeOf (within (k + n) j) b → r ≡ min a b → TimeOf (within k (j + n)) r
-  places-join k n j r u v e = rw (within_join k n j) at (time_min r u v e)
+  pub places_join : {a b : ℕ} (k n j r : ℕ) → TimeOf (within k n) a → TimeOf (within (k + n) j) b → r ≡ min a b → TimeOf (within k (j + n)) r
+  places_join k n j r u v e = rw (within_join k n j) at (time_min r u v e)
 
   -- By as many places as there are ways, and by more: the first way again leaves the least as it is.
   within_own : (k : ℕ) → k ≤ count → within 0 k ≡ least k

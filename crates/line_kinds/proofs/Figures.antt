@@ -33,9 +33,9 @@ module _ (resistance : ℕ) (line : List ℕ) (fields : Fields) (e : fields ≡ 
   unfolding level_fields steady_fields
   level_hot f h = rw (← e, f, lt-ltb temperature_max (steady_state (get_or fields.values 0 0) resistance) h) refl
 
-  pub level-sound : fields.fault ≡ Sound → steady_state (get_or fields.values 0 0) resistance ≤ temperature_max → fields ≡ level_fields resistance line
+  pub level_sound : fields.fault ≡ Sound → steady_state (get_or fields.values 0 0) resistance ≤ temperature_max → fields ≡ level_fields resistance line
   unfolding level_fields steady_fields
-  level-sound f h = rw (← e, f, le-ltb temperature_max (steady_state (get_or fields.values 0 0) resistance) h) refl
+  level_sound f h = rw (← e, f, le-ltb temperature_max (steady_state (get_or fields.values 0 0) resistance) h) refl
 
 module _ (kind : Kind) (j : ℕ) (line : List ℕ) (fields : Fields) where
   pub for_level : (resistance : ℕ) → kind ≡ Level resistance → fields ≡ level_fields resistance line → fields ≡ fields_for kind j line

@@ -2,7 +2,7 @@
 
 ghost use Rattle.std.specs.Prelude.{◌≡◌, ◌≤◌, length};
 ghost use Rattle.text.specs.Text.{part, count};
-ghost use Rattle.fields.specs.Fields.{numbersIn};
+ghost use Rattle.fields.specs.Fields.{numbers_in};
 ghost use Rattle.line_kinds.specs.Figures.{level_fields, fields_for, put, PlaceIn};
 
 use fields::{Fault, Numbers};
@@ -33,7 +33,7 @@ const WORK_HI: [u32; 10] = [COST_MAX, COST_MAX, DECAY_MAX, 0, 0, 0, 0, 0, 0, 0];
 // Reads an L line: its power, and the steady-state temperature that it gives, are in range.
 fn read_level(s: &[u8], from: usize, to: usize, tabs: usize, resistance: u32) -> Numbers
     requires { (from ≤ to) × (to ≤ length s.now) × (tabs ≡ count 9 (part from to s.now)) }
-    ensures { numbersIn s.now to result ≡ level_fields resistance (part from to s.now) }
+    ensures { numbers_in s.now to result ≡ level_fields resistance (part from to s.now) }
 {
     let lo = [0u32; 10];
     let hi = LEVEL_HI;
@@ -57,7 +57,7 @@ fn read_level(s: &[u8], from: usize, to: usize, tabs: usize, resistance: u32) ->
 // Reads line i, from 0, of the lines of a kind.
 pub fn read_line(s: &[u8], from: usize, to: usize, tabs: usize, kind: Kind, i: usize) -> Numbers
     requires { (from ≤ to) × (to ≤ length s.now) × (tabs ≡ count 9 (part from to s.now)) }
-    ensures { numbersIn s.now to result ≡ fields_for kind i (part from to s.now) }
+    ensures { numbers_in s.now to result ≡ fields_for kind i (part from to s.now) }
 {
     match kind {
         Kind::Level(resistance) => read_level(s, from, to, tabs, resistance),

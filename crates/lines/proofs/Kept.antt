@@ -12,7 +12,7 @@ use borrow.Author.Tests.{ltb-false, eq-eqb, ne_eqb}
 use Rattle.store.specs.Store.{levels_max, works_max, powers, change_times, change_energies, job_times, job_energies, decays, store_size}
 use Rattle.text.specs.Text.{until, beyond, ahead}
 use Rattle.thermal.specs.Thermal.{steady_state}
-use Rattle.thermal.proofs.Steady.{steady-within}
+use Rattle.thermal.proofs.Steady.{steady_within}
 use Rattle.fields.specs.Fields.{Fields, fields_of}
 use Rattle.fields.specs.declared.Fault.TheVariants.{Sound}
 use Rattle.fields.proofs.Within.{faulty, shapeless, fields_held, cond_cases}
@@ -163,7 +163,7 @@ pub record Fits (resistance k v : ℕ) : Type 0 where
 
 -- Every place takes 0.
 pub fits_zero : (resistance k : ℕ) → Fits resistance k 0
-fits_zero resistance k = omega (arith, steady-within 0 resistance temperature_max (omega arith))
+fits_zero resistance k = omega (arith, steady_within 0 resistance temperature_max (omega arith))
 
 module _ (resistance : ℕ) where
   -- The line of level j.
@@ -182,9 +182,9 @@ module _ (resistance : ℕ) where
       }
 
   -- A time or an energy, of a change or of a job.
-  cost-fits : (k v : ℕ) → change_times ≤ k → k < decays → v ≤ cost_max → ((p : ℕ) → p < levels_max → k ≡ change_times + (p * levels_max + p) → v ≡ 0) →
+  cost_fits : (k v : ℕ) → change_times ≤ k → k < decays → v ≤ cost_max → ((p : ℕ) → p < levels_max → k ≡ change_times + (p * levels_max + p) → v ≡ 0) →
       ((p : ℕ) → p < levels_max → k ≡ change_energies + (p * levels_max + p) → v ≡ 0) → Fits resistance k v
-  cost-fits k v l h c time energy =
+  cost_fits k v l h c time energy =
       record {
         power = λ a. absurd (omega arith);
         steady = λ a. absurd (omega arith);
@@ -195,23 +195,23 @@ module _ (resistance : ℕ) where
       }
 
   -- The line of a change from p to j; place p * levelsMax + j is that of a stay only where j is p.
-  pub change-takes : (p : ℕ) → p < levels_max → (j : ℕ) (line : List ℕ) → j < levels_max → (fields_for (Change p) j line).fault ≡ Sound →
+  pub change_takes : (p : ℕ) → p < levels_max → (j : ℕ) (line : List ℕ) → j < levels_max → (fields_for (Change p) j line).fault ≡ Sound →
       Takes (Fits resistance) (Change p) (p * levels_max + j) (fields_for (Change p) j line).values
   unfolding fields_for
-  change-takes p l j line h e =
+  change_takes p l j line h e =
       let w = change_held p j line e in (
-        cost-fits _ _ (omega arith) (omega arith) w.time (λ q a b. (w.stay (omega arith)).0) (λ q a b. absurd (omega arith)),
-        cost-fits _ _ (omega arith) (omega arith) w.energy (λ q a b. absurd (omega arith)) (λ q a b. (w.stay (omega arith)).1),
+        cost_fits _ _ (omega arith) (omega arith) w.time (λ q a b. (w.stay (omega arith)).0) (λ q a b. absurd (omega arith)),
+        cost_fits _ _ (omega arith) (omega arith) w.energy (λ q a b. absurd (omega arith)) (λ q a b. (w.stay (omega arith)).1),
       )
 
   -- A line of a job, at place k.
-  pub work-takes : (k j : ℕ) (line : List ℕ) → k < works_max → (fields_for Work j line).fault ≡ Sound →
+  pub work_takes : (k j : ℕ) (line : List ℕ) → k < works_max → (fields_for Work j line).fault ≡ Sound →
       Takes (Fits resistance) Work k (fields_for Work j line).values
   unfolding fields_for
-  work-takes k j line h e =
+  work_takes k j line h e =
       let w = work_held line e in (
-        cost-fits _ _ (omega arith) (omega arith) w.time (λ q a b. absurd (omega arith)) (λ q a b. absurd (omega arith)),
-        cost-fits _ _ (omega arith) (omega arith) w.energy (λ q a b. absurd (omega arith)) (λ q a b. absurd (omega arith)),
+        cost_fits _ _ (omega arith) (omega arith) w.time (λ q a b. absurd (omega arith)) (λ q a b. absurd (omega arith)),
+        cost_fits _ _ (omega arith) (omega arith) w.energy (λ q a b. absurd (omega arith)) (λ q a b. absurd (omega arith)),
         record {
           power = λ a. absurd (omega arith);
           steady = λ a. absurd (omega arith);

@@ -38,10 +38,10 @@ module _ (s : List ℕ) (kind : Kind) (b n j p ln : ℕ) (st : List ℕ) (h : j 
     unfolding block_from
     block_fault o = rw (left, line_ahead z l, same) (sym (after_other fields.fault _ _ o))
 
-pub block-end : (s : List ℕ) (kind : Kind) (b n j p ln : ℕ) (st : List ℕ) → n ≤ j →
+pub block_end : (s : List ℕ) (kind : Kind) (b n j p ln : ℕ) (st : List ℕ) → n ≤ j →
     record { fault = Sound; line = ln; rest = drop p s; store = st } ≡ block_from kind b (n - j) j (drop p s) ln st
 unfolding block_from
-block-end s kind b n j p ln st h = let w : n - j ≡ 0 = omega arith in rw w refl
+block_end s kind b n j p ln st h = let w : n - j ≡ 0 = omega arith in rw w refl
 
 -- ---- a block of n lines, j of them read
 
@@ -78,7 +78,7 @@ module _ {s : List ℕ} {at : ℕ} {kind : Kind} {b n : ℕ} {old store : List �
     going_all h =
         let z : line + n ≡ line + j = omega (arith, g.most) in
         record {
-          found = rw z (block-end s kind b n j p (line + j) store h) ∙ sym (g.rest line);
+          found = rw z (block_end s kind b n j p (line + j) store h) ∙ sym (g.rest line);
           within = g.within;
           lines = omega arith;
           long = g.long;
@@ -94,9 +94,9 @@ module _ {s : List ℕ} {at : ℕ} {kind : Kind} {b n : ℕ} {old store : List �
             long = g.long;
           }
 
-      pub going-fault : (r.end ≡ length s → ⊥) → (fields : Fields) → fields ≡ fields_for kind j (part p r.end s) → Other fields.fault →
+      pub going_fault : (r.end ≡ length s → ⊥) → (fields : Fields) → fields ≡ fields_for kind j (part p r.end s) → Other fields.fault →
           Reads s (block_from kind b n 0 (drop at s) line old) (line + n) store (record { fault = fields.fault; line = line + j; at = p })
-      going-fault l fields e o =
+      going_fault l fields e o =
           record {
             found = block_fault s kind b n j p (line + j) store h r z (omega (arith, z.within, l)) fields e o ∙ sym (g.rest line);
             within = g.within;

@@ -9,7 +9,7 @@ use Rattle.store.specs.Store.{store_size}
 use Rattle.fields.proofs.Within.{cond_cases}
 use Rattle.line_kinds.specs.declared.Kind.{Kind}
 use Rattle.fast_lines.specs.declared.Next.TheVariants.{Line, Other}
-use Rattle.fast_lines.specs.Take.{takesLine, TakesLine}
+use Rattle.fast_lines.specs.Take.{takes_line, TakesLine}
 use Rattle.fast_lines.proofs.Take.{line_of, next_line, next_taken, next_other}
 use Rattle.lines.specs.Take.{Took, taken_from}
 use Rattle.lines.proofs.Lines.{Going, going_none, going_on}
@@ -38,17 +38,17 @@ module _ {s : List ℕ} {at : ℕ} {kind : Kind} {b n : ℕ} {old store : List �
         same = w.same ∙ rw (e, l.0, z.store, l.1) refl;
       }
 
-  pub lines-stop : j < n → {new : List ℕ} → TakesLine kind j s p (b + j) store new Other →
+  pub lines_stop : j < n → {new : List ℕ} → TakesLine kind j s p (b + j) store new Other →
       record { lines = j; at = p; store = new } ≡ taken_from kind b n 0 s at old
   unfolding taken_from
-  lines-stop h z =
+  lines_stop h z =
       let e : n - j ≡ suc (n - (j + 1)) = omega arith in
       let l = next_other kind j s p (b + j) store z in
       sym (w.same ∙ rw (e, l.0, l.1) refl)
 
-  pub lines-all : n ≤ j → record { lines = j; at = p; store = store } ≡ taken_from kind b n 0 s at old
+  pub lines_all : n ≤ j → record { lines = j; at = p; store = store } ≡ taken_from kind b n 0 s at old
   unfolding taken_from
-  lines-all h = let e : n - j ≡ 0 = omega arith in sym (w.same ∙ rw e refl)
+  lines_all h = let e : n - j ≡ 0 = omega arith in sym (w.same ∙ rw e refl)
 
 -- The lines that are taken are read.
 going_taken : {s : List ℕ} {at : ℕ} {kind : Kind} {b n : ℕ} {old : List ℕ} (m : ℕ) {store : List ℕ} {p j : ℕ} → j + m ≡ n →
@@ -58,7 +58,7 @@ unfolding taken_from
 going_taken zero e g = g
 going_taken {s} {at} {kind} {b} {n} {old} (suc m) {store} {p} {j} e g =
     let P : Took → Type 0 = λ t. Going s at kind b n old t.store t.at t.lines in
-    cond_cases P (takesLine kind j s p) _ _
+    cond_cases P (takes_line kind j s p) _ _
     (λ t. going_taken m (omega arith) (going_on g (omega arith) (line_of kind j s p (b + j) store t)))
     (λ t. g)
 

@@ -34,13 +34,13 @@ block_from kind b (suc n) j t ln st =
     (record { fault = Shape; line = ln; rest = t; store = st })
 
 -- What was read of the text s, with the store that it left.
-abbrev pub foundIn : List ℕ → Stop → List ℕ → Found
-foundIn s r st = record { fault = r.fault; line = r.line; rest = drop r.at s; store = st }
+abbrev pub found_in : List ℕ → Stop → List ℕ → Found
+found_in s r st = record { fault = r.fault; line = r.line; rest = drop r.at s; store = st }
 
 -- Lines of the text s were read: what was found, with the store that it left, where the reading stopped, at a place of the
 -- text and at most at line `most`.
 pub record Reads (s : List ℕ) (spec : Found) (most : ℕ) (new : List ℕ) (r : Stop) : Type 0 where
-  pub found : foundIn s r new ≡ spec
+  pub found : found_in s r new ≡ spec
   pub within : r.at ≤ length s
   pub lines : r.line ≤ most
   pub long : length new ≡ store_size

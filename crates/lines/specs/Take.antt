@@ -2,7 +2,7 @@
 -- Assumes nothing.
 use Rattle.std.specs.Prelude.{cond, List, ℕ, zero, suc, ◌+◌}
 use Rattle.line_kinds.specs.declared.Kind.{Kind}
-use Rattle.fast_lines.specs.Take.{takesLine, line_after, store_after}
+use Rattle.fast_lines.specs.Take.{takes_line, line_after, store_after}
 use Rattle.lines.specs.declared.Progress.{Progress}
 
 -- Lines that were taken: how many of their block, the place of the next one, and the store.
@@ -16,9 +16,9 @@ pub record Took : Type 0 where
 unfoldable pub taken_from : Kind → ℕ → ℕ → ℕ → List ℕ → ℕ → List ℕ → Took
 taken_from kind b zero j s p st = record { lines = j; at = p; store = st }
 taken_from kind b (suc n) j s p st =
-    cond (takesLine kind j s p) (taken_from kind b n (j + 1) s (line_after s p) (store_after kind j s p (b + j) st))
+    cond (takes_line kind j s p) (taken_from kind b n (j + 1) s (line_after s p) (store_after kind j s p (b + j) st))
     (record { lines = j; at = p; store = st })
 
 -- What was taken, with the store that it left.
-abbrev pub tookIn : Progress → List ℕ → Took
-tookIn r st = record { lines = r.lines; at = r.at; store = st }
+abbrev pub took_in : Progress → List ℕ → Took
+took_in r st = record { lines = r.lines; at = r.at; store = st }

@@ -4,7 +4,7 @@ ghost use Rattle.std.specs.Prelude.{◌≡◌, ◌+◌, ◌<◌, ◌≤◌, leng
 ghost use Rattle.store.specs.Store.{store_size};
 ghost use Rattle.line_kinds.specs.Figures.{places_of};
 ghost use Rattle.lines.specs.Lines.{count_end, block_from, Reads};
-ghost use Rattle.lines.specs.Take.{taken_from, tookIn};
+ghost use Rattle.lines.specs.Take.{taken_from, took_in};
 
 use fast_lines::Next;
 use fields::Fault;
@@ -28,7 +28,7 @@ struct Progress {
 // Takes the lines of a block of n lines of a kind, the first of which starts at `at`, up to one that is not taken.
 fn take_lines(s: &[u8], at: usize, kind: Kind, base: usize, n: usize, store: &mut [u32]) -> Progress
     requires { (at ≤ length s.now) × (base + n ≤ places_of kind) × (length store.old ≡ store_size) }
-    ensures { tookIn result store.new ≡ taken_from kind base n 0 s.now at store.old }
+    ensures { took_in result store.new ≡ taken_from kind base n 0 s.now at store.old }
 {
     let mut p = at;
     let mut j: usize = 0;

@@ -33,12 +33,12 @@ module _ (a b : ℕ) (h : a < 2 ^ 63) (g : b < 2 ^ 63) where
       ]
 
   -- The code's difference of the two casts does not overflow.
-  pub margin-fits : SFits w64 (to_z w64 a -ℤ to_z w64 b)
-  margin-fits = rw (to_z_pos w64 h, to_z_pos w64 g, sub_is a b) sub_fits
+  pub margin_fits : SFits w64 (to_z w64 a -ℤ to_z w64 b)
+  margin_fits = rw (to_z_pos w64 h, to_z_pos w64 g, sub_is a b) sub_fits
 
   -- The code's difference is the margin.
   pub margin_is : to_z w64 (of_z w64 (to_z w64 a -ℤ to_z w64 b)) ≡ sub_ℕ a b
-  margin_is = to_z-of_z margin-fits ∙ rw (to_z_pos w64 h, to_z_pos w64 g) (sub_is a b)
+  margin_is = to_z-of_z margin_fits ∙ rw (to_z_pos w64 h, to_z_pos w64 g) (sub_is a b)
 
 -- Minus a natural.
 sub_zero : (k : ℕ) → sub_ℕ 0 k ≡ neg_ℤ (pos k)

@@ -13,11 +13,11 @@ use borrow.Author.Tests.{ltb-true, ltb-false, eqb-true, eqb-false}
 use Rattle.frame.specs.Sheet.{Sheet}
 use Rattle.frame.specs.Demands.{Below}
 use Rattle.frame.specs.Limits.{margins}
-use Rattle.frame.proofs.Margins.{margins-met, margins_meet}
+use Rattle.frame.proofs.Margins.{margins_met, margins_meet}
 use Rattle.fields.proofs.Within.{cond_cases}
 use Rattle.refusal.specs.Code.{number_of}
 use Rattle.refusal.proofs.Apart.{accepted_ways, accepted_refused}
-use Rattle.sheet.specs.Reading.{reading_of, sheetIn}
+use Rattle.sheet.specs.Reading.{reading_of, sheet_in}
 use Rattle.measure.specs.declared.Measured.{Measured}
 use Rattle.measure.specs.Measure.{first_above, refused_measured, measured_as, turned_away, measure_of}
 use Rattle.measure.specs.Meaning.{Judged, Meaning}
@@ -60,8 +60,8 @@ module _ (s : Sheet) (js : List ℕ) where
           met = λ e. absurd (omega (arith, e));
         }
 
-    on-margins : length js ≤ first_above s.levels js → Judged s js (measured_as (margins s js))
-    on-margins h =
+    on_margins : length js ≤ first_above s.levels js → Judged s js (measured_as (margins s js))
+    on_margins h =
         let b = none_below s.levels js h in
         record {
           eleven = ((λ e. absurd (omega (arith, e))), (λ o. absurd (o m)));
@@ -71,9 +71,9 @@ module _ (s : Sheet) (js : List ℕ) where
           level_reply = λ e. absurd (omega (arith, e));
           level_place = λ e. absurd (omega (arith, e));
           margins_reply = λ e. refl;
-          time = λ e. (margins-met s js).0;
-          energy = λ e. (margins-met s js).1;
-          temperature = λ e. (margins-met s js).2;
+          time = λ e. (margins_met s js).0;
+          energy = λ e. (margins_met s js).1;
+          temperature = λ e. (margins_met s js).2;
           met = λ e. margins_meet s js;
         }
 
@@ -82,27 +82,27 @@ module _ (s : Sheet) (js : List ℕ) where
   judged =
       let place = first_above s.levels js in
       cond_cases (Judged s js) (eqb (length js) s.jobs) _ _
-      (λ m. cond_cases (Judged s js) (ltb place (length js)) _ _ (λ h. on_level (eqb-true _ _ m) (ltb-true _ _ h)) (λ h. on-margins (eqb-true _ _ m) (ltb-false _ _ h)))
+      (λ m. cond_cases (Judged s js) (ltb place (length js)) _ _ (λ h. on_level (eqb-true _ _ m) (ltb-true _ _ h)) (λ h. on_margins (eqb-true _ _ m) (ltb-false _ _ h)))
       (λ m. on_length (eqb-false _ _ m))
 
-measure-means : (t js : List ℕ) → Meaning t js (measure_of t js)
+measure_means : (t js : List ℕ) → Meaning t js (measure_of t js)
 unfolding measure_of
-measure-means t js =
+measure_means t js =
     record {
       fails = λ n. accepted_refused (reading_of t).refusal turned_away _ n;
       passes = λ e.
-          accepted_ways (Judged (sheetIn t) js) (reading_of t).refusal turned_away _ (λ l h. absurd (omega (arith, l, ap number_of e))) (λ z. judged (sheetIn t) js);
+          accepted_ways (Judged (sheet_in t) js) (reading_of t).refusal turned_away _ (λ l h. absurd (omega (arith, l, ap number_of e))) (λ z. judged (sheet_in t) js);
     }
 
 -- Beside the equation, the words.
 pub means : {t js : List ℕ} {q : Measured} → q ≡ measure_of t js → (q ≡ measure_of t js) × Meaning t js q
-means {t} {js} e = (e, rw e (measure-means t js))
+means {t} {js} e = (e, rw e (measure_means t js))
 
 -- ---- the words leave one answer
 
 -- The first place is where a level is l or more and none before it is.
-first-only : (l : ℕ) (js : List ℕ) (k : ℕ) → first_above l js < length js → l ≤ get_or js k 0 → ((i : ℕ) → i < k → get_or js i 0 < l) → k ≡ first_above l js
-first-only l js k h a b =
+first_only : (l : ℕ) (js : List ℕ) (k : ℕ) → first_above l js < length js → l ≤ get_or js k 0 → ((i : ℕ) → i < k → get_or js i 0 < l) → k ≡ first_above l js
+first_only l js k h a b =
     elim (dec_lt k (first_above l js)) [
       | yes c ↦ absurd (omega (arith, a, below_before l js k c))
       | no c ↦
@@ -112,9 +112,9 @@ first-only l js k h a b =
           ]
     ]
 
-judged-only : (s : Sheet) (js : List ℕ) (q : Measured) → Judged s js q → let place = first_above s.levels js in
+judged_only : (s : Sheet) (js : List ℕ) (q : Measured) → Judged s js q → let place = first_above s.levels js in
     q ≡ cond (eqb (length js) s.jobs) (cond (ltb place (length js)) (refused_measured 12 0 place) (measured_as (margins s js))) (refused_measured 11 0 0)
-judged-only s js q w =
+judged_only s js q w =
     let place = first_above s.levels js in
     let P : Measured → Type 0 = λ x. q ≡ x in
     cond_cases P (eqb (length js) s.jobs) _ _
@@ -122,7 +122,7 @@ judged-only s js q w =
     (λ h.
     let k = ltb-true place (length js) h in
     let e = w.twelve.1 (eqb-true _ _ m, λ b. omega (arith, k, below_none s.levels js b)) in
-    w.level_reply e ∙ ap (refused_measured 12 0) (first-only s.levels js q.field k (w.level_place e).0 (w.level_place e).1))
+    w.level_reply e ∙ ap (refused_measured 12 0) (first_only s.levels js q.field k (w.level_place e).0 (w.level_place e).1))
     (λ h. w.margins_reply (w.measured.1 (record { size = eqb-true _ _ m; below = none_below s.levels js (ltb-false _ _ h) }))))
     (λ m. w.length_reply (w.eleven.1 (eqb-false _ _ m)))
 
@@ -130,4 +130,4 @@ pub meaning_unique : (t js : List ℕ) (q : Measured) → Meaning t js q → q �
 unfolding measure_of
 meaning_unique t js q w =
     accepted_ways (λ x. q ≡ x) (reading_of t).refusal turned_away _ (λ l h. w.fails (λ e. omega (arith, l, ap number_of e)))
-    (λ e. judged-only (sheetIn t) js q (w.passes e))
+    (λ e. judged_only (sheet_in t) js q (w.passes e))

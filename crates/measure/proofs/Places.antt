@@ -10,7 +10,7 @@ use Rattle.store.specs.Store.{jobs_max}
 use Rattle.fields.proofs.Within.{cond_cases}
 use Rattle.refusal.proofs.Apart.{accepted_ways}
 use Rattle.body.specs.Body.{end_line}
-use Rattle.sheet.specs.Reading.{reading_of, sheetIn}
+use Rattle.sheet.specs.Reading.{reading_of, sheet_in}
 use Rattle.sheet.proofs.Places.{refusal_line_most, refusal_field}
 use Rattle.sheet.proofs.Ranges.{read_ranges}
 use Rattle.measure.specs.declared.Measured.{Measured}
@@ -24,7 +24,7 @@ pub record Near (q : Measured) : Type 0 where
 pub measured_near : (t js : List ℕ) → Near (measure_of t js)
 unfolding measure_of
 measured_near t js =
-    let s = sheetIn t in
+    let s = sheet_in t in
     let place = first_above s.levels js in
     accepted_ways Near (reading_of t).refusal turned_away _ (λ l h. record { line = refusal_line_most t; field = omega (arith, refusal_field t) })
     (λ e. cond_cases Near (eqb (length js) s.jobs) _ _

@@ -15,7 +15,7 @@ use Rattle.store.specs.Figures.{sheet_of}
 use Rattle.run.proofs.Small.{small_start, small_run}
 use Rattle.refusal.specs.declared.Refusal.TheVariants.{Nothing}
 use Rattle.refusal.specs.declared.RefusalCode.{RefusalCode}
-use Rattle.refusal.specs.Code.{number_of, line_of, field_of, codeAs}
+use Rattle.refusal.specs.Code.{number_of, line_of, field_of, code_as}
 use Rattle.refusal.proofs.Apart.{Refuses, refuses_some, accepted_refused}
 use Rattle.sheet.specs.declared.Reading.{Reading}
 use Rattle.sheet.specs.Reading.{read_in, reading_of}
@@ -36,16 +36,16 @@ pub measured_under : {s : Sheet} {js : List ℕ} → Measurable s js → Under (
 measured_under {s} {js} w = let r = w.ranges in omega (arith, small_run r js 0 (start s) (small_start r), r.jobs.high, w.list.size)
 
 -- The reply that holds the margins of a run.
-pub margins-are : (s : Sheet) (js : List ℕ) (a : State) → a ≡ exact_run s (start s) js → (time energy temperature : ℤ) →
+pub margins_hold : (s : Sheet) (js : List ℕ) (a : State) → a ≡ exact_run s (start s) js → (time energy temperature : ℤ) →
     time ≡ sub_ℕ s.deadline a.time → energy ≡ sub_ℕ s.energy_budget a.energy → temperature ≡ sub_ℕ s.temperature_limit a.peak →
     record { refusal = 0; line = 0; field = 0; time = time; energy = energy; temperature = temperature } ≡ measured_as (margins s js)
 unfolding margins
-margins-are s js a h time energy temperature x y z = rw (x, y, z, h) refl
+margins_hold s js a h time energy temperature x y z = rw (x, y, z, h) refl
 
 -- ---- the reply
 
 module _ (t js : List ℕ) (r : Reading) (st : List ℕ) (e : read_in r st ≡ reading_of t) where
-  pub measure_refused : (c : RefusalCode) → Refuses r.refusal → c ≡ codeAs (number_of r.refusal) (line_of r.refusal) (field_of r.refusal) →
+  pub measure_refused : (c : RefusalCode) → Refuses r.refusal → c ≡ code_as (number_of r.refusal) (line_of r.refusal) (field_of r.refusal) →
       refused_measured c.number c.line c.field ≡ measure_of t js
   unfolding measure_of
   measure_refused c h k = rw (sym e, k) (sym (accepted_refused r.refusal turned_away _ (refuses_some r.refusal h)))

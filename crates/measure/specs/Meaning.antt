@@ -7,7 +7,7 @@ use Rattle.frame.specs.Run.{start, exact, exact_run}
 use Rattle.frame.specs.Limits.{Meets, limits, margins}
 use Rattle.frame.specs.Demands.{Below, LevelList}
 use Rattle.refusal.specs.declared.Refusal.TheVariants.{Nothing}
-use Rattle.sheet.specs.Reading.{reading_of, sheetIn}
+use Rattle.sheet.specs.Reading.{reading_of, sheet_in}
 use Rattle.measure.specs.declared.Measured.{Measured}
 use Rattle.measure.specs.Measure.{refused_measured, measured_as, turned_away}
 
@@ -37,4 +37,4 @@ pub record Judged (s : Sheet) (js : List ℕ) (q : Measured) : Type 0 where
 pub record Meaning (t js : List ℕ) (q : Measured) : Type 0 where
   -- a sheet that fails one of checks 1 to 6 is refused for the first that it fails
   pub fails : ¬ ((reading_of t).refusal ≡ Nothing) → q ≡ turned_away (reading_of t).refusal
-  pub passes : (reading_of t).refusal ≡ Nothing → Judged (sheetIn t) js q
+  pub passes : (reading_of t).refusal ≡ Nothing → Judged (sheet_in t) js q

@@ -7,7 +7,7 @@ use Rattle.frame.specs.Limits.{Margins, margins}
 use Rattle.frame.specs.Demands.{LevelList}
 use Rattle.refusal.specs.declared.Refusal.{Refusal}
 use Rattle.refusal.specs.Code.{number_of, line_of, field_of, accepted}
-use Rattle.sheet.specs.Reading.{reading_of, sheetIn}
+use Rattle.sheet.specs.Reading.{reading_of, sheet_in}
 use Rattle.measure.specs.declared.Measured.{Measured}
 
 -- The first place, from 0, at which "a level is l or more"; the list's length where there is none.
@@ -36,7 +36,7 @@ turned_away f = refused_measured (number_of f) (line_of f) (field_of f)
 -- place, from 0"; and else its margins.
 unfoldable pub measure_of : List ℕ → List ℕ → Measured
 measure_of t js =
-    let s : Sheet = sheetIn t in
+    let s : Sheet = sheet_in t in
     let place : ℕ = first_above s.levels js in
     accepted (reading_of t).refusal turned_away
     (cond (eqb (length js) s.jobs)

@@ -17,7 +17,7 @@ use Rattle.table.specs.declared.Frame.{Frame}
 use Rattle.table.specs.Table.{Axes}
 use Rattle.table.proofs.Cells.{cells_small}
 use Rattle.moves.specs.declared.Move.{Move}
-use Rattle.moves.specs.Moves.{moved, shift_of, reachOf, move_of, Counts, Room, Moves}
+use Rattle.moves.specs.Moves.{moved, shift_of, reach_of, move_of, Counts, Room, Moves}
 use Rattle.moves.proofs.Reach.{reach_is, shift_is, reach_none, shift_none, reach_shift}
 
 -- ---- one move
@@ -50,8 +50,8 @@ module _ {s : Sheet} {f : Frame} (g : Axes s f) where
       }
 
   -- The figures of a move fit a word.
-  pub move-small : (i p j : ℕ) (m : Move) → m ≡ move_of s i p j → (m.shift ≤ words_max) × (m.reach ≤ words_max)
-  move-small i p j m e =
+  pub move_small : (i p j : ℕ) (m : Move) → m ≡ move_of s i p j → (m.shift ≤ words_max) × (m.reach ≤ words_max)
+  move_small i p j m e =
       let l = reach_shift s g.ranges i p j in
       (omega (arith, ap (λ (q : Move). q.shift) e, l, cells_small g), omega (arith, ap (λ (q : Move). q.reach) e, l, cells_small g))
 
@@ -90,6 +90,6 @@ module _ {s : Sheet} {f : Frame} (g : Axes s f) where
         rw z
         (record {
           shift = more shifts number m.shift (λ k. shift_of s i (k / s.levels) (k % s.levels)) (omega (arith, number_small, room.shifts_long)) (rw (d, r) (ap (λ (q : Move). q.shift) e)) v.shift;
-          reach = more reaches number m.reach (λ k. reachOf s i (k / s.levels) (k % s.levels)) (omega (arith, number_small, room.reaches_long)) (rw (d, r) (ap (λ (q : Move). q.reach) e)) v.reach;
+          reach = more reaches number m.reach (λ k. reach_of s i (k / s.levels) (k % s.levels)) (omega (arith, number_small, room.reaches_long)) (rw (d, r) (ap (λ (q : Move). q.reach) e)) v.reach;
           time = more times number m.time (λ k. (moved s i (k / s.levels) (k % s.levels)).time) (omega (arith, number_small, room.times_long)) (rw (d, r) (ap (λ (q : Move). q.time) e)) v.time;
         })

@@ -13,7 +13,7 @@ use Rattle.frame.specs.Run.{change, job, step}
 use Rattle.frame.specs.Table.{energy_cells, temperature_cells}
 use Rattle.frame.proofs.Table.{energy_cell}
 use Rattle.table.specs.Table.{cells}
-use Rattle.moves.specs.Moves.{moved, shift_of, reachOf}
+use Rattle.moves.specs.Moves.{moved, shift_of, reach_of}
 
 -- A number of whole steps more.
 pub ceil_add : (a e g : ℕ) → 0 < g → ceil_div (a * g + e) g ≡ a + ceil_div e g
@@ -31,8 +31,8 @@ module _ (s : Sheet) (ok : Ranges s) (i p j : ℕ) where
 
   -- Some cell has the energy.
   module _ (some : energy ≤ s.energy_budget) where
-    pub reach_is : reachOf s i p j ≡ (rows + 1) * temperature_cells s
-    unfolding reachOf
+    pub reach_is : reach_of s i p j ≡ (rows + 1) * temperature_cells s
+    unfolding reach_of
     reach_is = rw (le-ltb s.energy_budget energy some) refl
 
     pub shift_is : shift_of s i p j ≡ ceil_div energy s.energy_step * temperature_cells s
@@ -40,8 +40,8 @@ module _ (s : Sheet) (ok : Ranges s) (i p j : ℕ) where
     shift_is = rw (le-ltb s.energy_budget energy some) refl
 
   -- No cell has it.
-  pub reach_none : s.energy_budget < energy → reachOf s i p j ≡ 0
-  unfolding reachOf
+  pub reach_none : s.energy_budget < energy → reach_of s i p j ≡ 0
+  unfolding reach_of
   reach_none h = rw (lt-ltb s.energy_budget energy h) refl
 
   pub shift_none : s.energy_budget < energy → shift_of s i p j ≡ 0
@@ -53,7 +53,7 @@ module _ (s : Sheet) (ok : Ranges s) (i p j : ℕ) where
   axis_on a h = omega (arith, energy_cell s ok (a * s.energy_step + energy) h, ceil_add a energy s.energy_step ok.energy_step.low)
 
   -- A move leads from its reach to at most the end of the axis.
-  pub reach_shift : reachOf s i p j + shift_of s i p j ≤ cells s
+  pub reach_shift : reach_of s i p j + shift_of s i p j ≤ cells s
   unfolding cells
   reach_shift =
       elim (dec_lt s.energy_budget energy) [

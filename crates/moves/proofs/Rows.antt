@@ -29,8 +29,8 @@ module _ (w e g last up : ℕ) (some : 0 < g) (h : e ≤ w) (l : last ≡ ceil_d
       let k : (w - e) / g ≡ last - up = div-eq_of_lt-le g (omega (arith, multiples)) (omega (arith, multiples, add-mul (last - up) 1 g)) in
       omega (arith, k)
 
-  pub rows-less : up * g - e < last * g - w → last - up ≡ (w - e) / g + 1
-  rows-less r =
+  pub rows_less : up * g - e < last * g - w → last - up ≡ (w - e) / g + 1
+  rows_less r =
       elim (dec_lt up last) [
         | yes m ↦
             let d = last - up - 1 in

@@ -20,14 +20,14 @@ shift_of s i p j =
     cond (ltb s.energy_budget (moved s i p j).energy) 0 (ceil_div (moved s i p j).energy s.energy_step * temperature_cells s)
 
 -- How many words, from the first, it is lawful for: those of energy cells a with a × g and the job's energy "at most W".
-unfoldable pub reachOf : Sheet → ℕ → ℕ → ℕ → ℕ
-reachOf s i p j =
+unfoldable pub reach_of : Sheet → ℕ → ℕ → ℕ → ℕ
+reach_of s i p j =
     cond (ltb s.energy_budget (moved s i p j).energy) 0
     (((s.energy_budget - (moved s i p j).energy) / s.energy_step + 1) * temperature_cells s)
 
 -- The move as the code has it.
 abbrev pub move_of : Sheet → ℕ → ℕ → ℕ → Move
-move_of s i p j = record { shift = shift_of s i p j; reach = reachOf s i p j; time = (moved s i p j).time }
+move_of s i p j = record { shift = shift_of s i p j; reach = reach_of s i p j; time = (moved s i p j).time }
 
 -- What counting lawful rows may rest on: some cell has the energy, and up is the energy's cells.
 pub record Counts (f : Frame) (energy up : ℕ) : Type 0 where
@@ -47,5 +47,5 @@ pub record Room (shifts reaches times : List ℕ) : Type 0 where
 -- The first n of the l × l moves of job i, by level left and then level entered. What stands behind them is open.
 pub record Moves (s : Sheet) (i n : ℕ) (shifts reaches times : List ℕ) : Type 0 where
   pub shift : (u : ℕ) → u < n → get_or shifts u 0 ≡ shift_of s i (u / s.levels) (u % s.levels)
-  pub reach : (u : ℕ) → u < n → get_or reaches u 0 ≡ reachOf s i (u / s.levels) (u % s.levels)
+  pub reach : (u : ℕ) → u < n → get_or reaches u 0 ≡ reach_of s i (u / s.levels) (u % s.levels)
   pub time : (u : ℕ) → u < n → get_or times u 0 ≡ (moved s i (u / s.levels) (u % s.levels)).time

@@ -42,8 +42,8 @@ module _ (s : List ℕ) (from to : ℕ) (k : to ≤ length s) where
       let l = length_part from to s k in
       simp (ne_eqb (length (part from to s)) 0 (λ e. omega arith), lt-ltb name_max (length (part from to s)) (omega arith))
 
-  pub name-bytes : from < to → to - from ≤ name_max → is_name (part from to s) ≡ all 33 126 (part from to s)
-  name-bytes h m = let l = length_part from to s k in name_form (part from to s) (omega arith) (omega arith)
+  pub name_bytes : from < to → to - from ≤ name_max → is_name (part from to s) ≡ all 33 126 (part from to s)
+  name_bytes h m = let l = length_part from to s k in name_form (part from to s) (omega arith) (omega arith)
 
 -- ---- what a name says of its bytes
 

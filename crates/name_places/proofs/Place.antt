@@ -61,9 +61,9 @@ module _ {s : List ℕ} {from n k p : ℕ} (g : Skipped s from n k p) (r : Line)
       }
 
   -- No line is left.
-  pub skipped-end : r.end ≡ length s → drop r.end s ≡ skip n (drop from s)
+  pub skipped_end : r.end ≡ length s → drop r.end s ≡ skip n (drop from s)
   unfolding skip
-  skipped-end e =
+  skipped_end e =
       let d : drop (r.end + 1) s ≡ [] = drop_none s (r.end + 1) (omega arith) in
       drop_none s r.end (omega arith) ∙ sym (rw left at g.rest ∙ ap (skip (n - (k + 1))) (line_beyond z ∙ d) ∙ skip_none (n - (k + 1)))
 

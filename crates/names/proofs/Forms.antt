@@ -22,7 +22,7 @@ use Rattle.line_kinds.specs.declared.Kind.TheVariants.{Level, Change, Work}
 use Rattle.fields.proofs.Within.{cond_cases}
 use Rattle.fields.proofs.After.{after_cases}
 use Rattle.store.specs.Store.{levels_max, store_size}
-use Rattle.body.specs.Body.{onward, changes_from, jobs_from, bodyFrom, body_line, lines_before}
+use Rattle.body.specs.Body.{onward, changes_from, jobs_from, body_from, body_line, lines_before}
 use Rattle.refusal.specs.declared.Refusal.TheVariants.{Nothing}
 use Rattle.sheet.specs.Reading.{reading_of}
 use Rattle.sheet.proofs.Whole.{body_of, Whole, read_whole}
@@ -92,14 +92,14 @@ block_passes kind b (suc n) j t ln st =
     line_sound (λ f. Passed (suc n) t f.rest) t ln st (fields_for kind j (until 10 t)).fault _
     (λ a s e. passed_more a (block_passes kind b n (j + 1) (beyond 10 t) (ln + 1) _ e))
 
-changes-passes : (l n p : ℕ) (t : List ℕ) (ln : ℕ) (st : List ℕ) → Passes (n * l) t (changes_from l n p t ln st)
+changes_passes : (l n p : ℕ) (t : List ℕ) (ln : ℕ) (st : List ℕ) → Passes (n * l) t (changes_from l n p t ln st)
 unfolding changes_from
-changes-passes l zero p t ln st = λ e. let z : 0 * l ≡ 0 = omega arith in rw z (passed_none t)
-changes-passes l (suc n) p t ln st =
+changes_passes l zero p t ln st = λ e. let z : 0 * l ≡ 0 = omega arith in rw z (passed_none t)
+changes_passes l (suc n) p t ln st =
     let f = block_from (Change p) (p * levels_max) l 0 t ln st in
     let z : suc n * l ≡ l + n * l = omega arith in
     rw z (onward_sound (λ g. Passed (l + n * l) t g.rest) f (changes_from l n (p + 1))
-    (λ s e. passed_add (block_passes (Change p) (p * levels_max) l 0 t ln st s) (changes-passes l n (p + 1) f.rest f.line f.store e)))
+    (λ s e. passed_add (block_passes (Change p) (p * levels_max) l 0 t ln st s) (changes_passes l n (p + 1) f.rest f.line f.store e)))
 
 -- ---- the names of jobs
 
@@ -139,36 +139,36 @@ named_more {l} {n} {t} {u} {v} f p w = record { passed = rw (z n) y.passed; name
     go zero h = let x : 0 + 0 * (l + 1) ≡ 0 = omega arith in rw x f
     go (suc i) h = rw (z i) (y.named i (omega arith))
 
-jobs-named : (l n i : ℕ) (t : List ℕ) (ln : ℕ) (st : List ℕ) → (jobs_from l n i t ln st).fault ≡ Sound → Named l n 0 t (jobs_from l n i t ln st).rest
+jobs_named : (l n i : ℕ) (t : List ℕ) (ln : ℕ) (st : List ℕ) → (jobs_from l n i t ln st).fault ≡ Sound → Named l n 0 t (jobs_from l n i t ln st).rest
 unfolding jobs_from
-jobs-named l zero i t ln st = λ e.
+jobs_named l zero i t ln st = λ e.
     let z : 0 + 0 * (l + 1) ≡ 0 = omega arith in
     record { passed = rw z (passed_none t); named = λ k h. absurd (omega arith) }
-jobs-named l (suc n) i t ln st =
+jobs_named l (suc n) i t ln st =
     let P : Found → Type 0 = λ g. Named l (suc n) 0 t g.rest in
     let f = block_from Work (i * levels_max) l 0 (beyond 10 t) (ln + 1) st in
     let z : l + 1 ≡ suc l = omega arith in
     line_sound P t ln st (name_fault (until 10 t)) (onward f (jobs_from l n (i + 1)))
     (λ a s. onward_sound P f (jobs_from l n (i + 1))
     (λ s' e. named_more (name_formed (until 10 t) s) (rw z (passed_more a (block_passes Work (i * levels_max) l 0 (beyond 10 t) (ln + 1) st s')))
-    (jobs-named l n (i + 1) f.rest f.line f.store e)))
+    (jobs_named l n (i + 1) f.rest f.line f.store e)))
 
-body_named : (m l resistance : ℕ) (t : List ℕ) (ln : ℕ) (st : List ℕ) → (bodyFrom m l resistance t ln st).fault ≡ Sound →
-    Named l m (l + l * l) t (bodyFrom m l resistance t ln st).rest
-unfolding bodyFrom
+body_named : (m l resistance : ℕ) (t : List ℕ) (ln : ℕ) (st : List ℕ) → (body_from m l resistance t ln st).fault ≡ Sound →
+    Named l m (l + l * l) t (body_from m l resistance t ln st).rest
+unfolding body_from
 body_named m l resistance t ln st =
     let f = block_from (Level resistance) 0 l 0 t ln st in
     let g = onward f (changes_from l l 0) in
-    let p = onward_sound (λ (h : Found). Passed (l + l * l) t h.rest) f (changes_from l l 0) (λ s e. passed_add (block_passes (Level resistance) 0 l 0 t ln st s) (changes-passes l l 0 f.rest f.line f.store e)) in
+    let p = onward_sound (λ (h : Found). Passed (l + l * l) t h.rest) f (changes_from l l 0) (λ s e. passed_add (block_passes (Level resistance) 0 l 0 t ln st s) (changes_passes l l 0 f.rest f.line f.store e)) in
     let z : l + l * l + 0 ≡ l + l * l = omega arith in
     onward_sound (λ h. Named l m (l + l * l) t h.rest) g (jobs_from l m 0)
-    (λ s e. rw z at (named_add (p s) (jobs-named l m 0 g.rest g.line g.store e)))
+    (λ s e. rw z at (named_add (p s) (jobs_named l m 0 g.rest g.line g.store e)))
 
 -- ---- a whole sheet
 
-sheet-named : (t : List ℕ) (w : Whole t (reading_of t)) →
+sheet_named : (t : List ℕ) (w : Whole t (reading_of t)) →
     let h = (reading_of t).head in Named h.levels h.jobs (2 + h.levels + h.levels * h.levels) t (body_of w.vs (beyond 10 (beyond 10 t))).rest
-sheet-named t w =
+sheet_named t w =
     let m = get_or w.vs 0 0 in
     let l = get_or w.vs 1 0 in
     let z : 2 + l + l * l ≡ 2 + (l + l * l) = omega arith in
@@ -176,14 +176,14 @@ sheet-named t w =
     (named_add (passed_more w.first (passed_more w.second (passed_none _))) (body_named m l (get_or w.vs 7 0) (beyond 10 (beyond 10 t)) body_line (replicate store_size 0) w.sound))
 
 -- Every line of a sheet that is read is ended.
-pub lines-ahead : (t : List ℕ) (n : ℕ) → (reading_of t).refusal ≡ Nothing →
+pub lines_ahead : (t : List ℕ) (n : ℕ) → (reading_of t).refusal ≡ Nothing →
     n < lines_before (reading_of t).head.levels (reading_of t).head.jobs →
     ahead 10 (skip n t) ≡ true
-lines-ahead t n e h = (sheet-named t (read_whole t e)).passed.ended n h
+lines_ahead t n e h = (sheet_named t (read_whole t e)).passed.ended n h
 
 -- The name of a job of a sheet that is read is of the written form: "name (1 to 16 bytes, each 33 to 126)".
 pub job_name_form : (t : List ℕ) (i : ℕ) → (reading_of t).refusal ≡ Nothing → i < (reading_of t).head.jobs → is_name (name_of t i) ≡ true
-job_name_form t i e h = rw (name_some t i (reading_of t) refl h) ((sheet-named t (read_whole t e)).named i h)
+job_name_form t i e h = rw (name_some t i (reading_of t) refl h) ((sheet_named t (read_whole t e)).named i h)
 
 -- It has at most 16 bytes.
 pub job_name_short : (t : List ℕ) (i : ℕ) → (reading_of t).refusal ≡ Nothing → i < (reading_of t).head.jobs → length (name_of t i) ≤ name_max

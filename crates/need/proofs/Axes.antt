@@ -46,16 +46,16 @@ module _ (h : Head) (store : List ℕ) (ok : Ranges (sheet_of h store)) where
         allowed = n;
       }
 
-  cells-most : ((axes_of h).energy_cells ≤ limit_max + 1) × ((axes_of h).temperature_cells ≤ temperature_max + 1)
+  cells_most : ((axes_of h).energy_cells ≤ limit_max + 1) × ((axes_of h).temperature_cells ≤ temperature_max + 1)
   unfolding sheet_of energy_cells temperature_cells
-  cells-most = (
+  cells_most = (
     omega (arith, ceil_most h.energy_budget h.energy_step ok.energy_step.low, ok.energy_budget),
     omega (arith, ceil_most h.temperature_limit h.temperature_step ok.temperature_step.low, ok.temperature_limit),
   )
 
-  counts-most : (h.jobs ≤ jobs_max) × (h.levels ≤ levels_max)
+  counts_most : (h.jobs ≤ jobs_max) × (h.levels ≤ levels_max)
   unfolding sheet_of
-  counts-most = (ok.jobs.high, ok.levels.high)
+  counts_most = (ok.jobs.high, ok.levels.high)
 
   -- The need stays below 2 ^ 63 on every sheet that is read.
   pub need_small : let f = axes_of h in
@@ -63,9 +63,9 @@ module _ (h : Head) (store : List ℕ) (ok : Ranges (sheet_of h store)) where
       (h.jobs * h.levels * f.energy_cells * f.temperature_cells < 2 ^ 63)
   need_small =
       let f = axes_of h in
-      let j : h.jobs * h.levels ≤ jobs_max * levels_max = mul-le-mul counts-most.0 counts-most.1 in
-      let k : h.jobs * h.levels * f.energy_cells ≤ jobs_max * levels_max * (limit_max + 1) = mul-le-mul j cells-most.0 in
-      let l : h.jobs * h.levels * f.energy_cells * f.temperature_cells ≤ jobs_max * levels_max * (limit_max + 1) * (temperature_max + 1) = mul-le-mul k cells-most.1 in
+      let j : h.jobs * h.levels ≤ jobs_max * levels_max = mul-le-mul counts_most.0 counts_most.1 in
+      let k : h.jobs * h.levels * f.energy_cells ≤ jobs_max * levels_max * (limit_max + 1) = mul-le-mul j cells_most.0 in
+      let l : h.jobs * h.levels * f.energy_cells * f.temperature_cells ≤ jobs_max * levels_max * (limit_max + 1) * (temperature_max + 1) = mul-le-mul k cells_most.1 in
       (omega (arith, j), omega (arith, k), omega (arith, l))
 
   -- A need fits a signed 64-bit number.

@@ -4,7 +4,7 @@ use Rattle.std.specs.Prelude.{List, ℕ}
 use Rattle.frame.specs.Table.{need}
 use Rattle.refusal.specs.declared.Refusal.{Refusal}
 use Rattle.refusal.specs.Code.{number_of, accepted}
-use Rattle.sheet.specs.Reading.{reading_of, sheetIn}
+use Rattle.sheet.specs.Reading.{reading_of, sheet_in}
 use Rattle.need.specs.declared.Words.{Words}
 
 -- A sheet that is refused by 1 to 6 has no need.
@@ -13,4 +13,4 @@ refused_need f = record { refusal = number_of f; words = 0 }
 
 -- "The need is m × l × A × B words", of every sheet that 1 to 6 do not refuse, however many they are.
 unfoldable pub words_of : List ℕ → Words
-words_of t = accepted (reading_of t).refusal refused_need (record { refusal = 0; words = need (sheetIn t) })
+words_of t = accepted (reading_of t).refusal refused_need (record { refusal = 0; words = need (sheet_in t) })

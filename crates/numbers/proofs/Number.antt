@@ -15,7 +15,7 @@ use Rattle.text.specs.Text.{before, until, part, all}
 use Rattle.numbers.specs.Number.{leading_zero, is_number, value_from, field_at}
 use Rattle.numbers.specs.declared.Field.TheVariants.{Number, Malformed}
 use Rattle.text.proofs.Tests.{cond_false}
-use Rattle.text.proofs.Text.{until_hit, until_pass, until_none, part_none, part_here, length-until, all_low, all_high, all_on, all_none}
+use Rattle.text.proofs.Text.{until_hit, until_pass, until_none, part_none, part_here, length_until, all_low, all_high, all_on, all_none}
 
 -- ---- a number, by places
 
@@ -97,7 +97,7 @@ module _ (b : ℕ) (s : List ℕ) (from to : ℕ) where
     first l =
         let n : from ≤ to = omega (arith, z.within) in
         let m = z.inside n in
-        let h : 0 < before b (part from to s) = omega (arith, z.size, length-until b (part from to s)) in
+        let h : 0 < before b (part from to s) = omega (arith, z.size, length_until b (part from to s)) in
         get_or-take _ _ 0 0 h ∙ ap (λ (t : List ℕ). get_or t 0 0) (part_here from to s (omega arith) z.long)
 
     pub digits_zero : 1 < i - from → get_or s from 0 ≡ 48 → is_number (until b (part from to s)) ≡ false
@@ -176,5 +176,5 @@ pub field_number : (s : List ℕ) (from to i v : ℕ) → Digits 9 s from to i v
 unfolding field_at
 field_number s from to i v z e n c =
     let p : from + before 9 (part from to s) + 1 ≡ i + 1 =
-    omega (arith, z.start, digits_size 9 s from to i v z e, length-until 9 (part from to s)) in
+    omega (arith, z.start, digits_size 9 s from to i v z e, length_until 9 (part from to s)) in
     rw (digits_form 9 s from to i v z e (omega (arith, z.start, n)) c, digits_sum 9 s from to i v z e, p) refl

@@ -19,11 +19,11 @@ level_end p q cells h =
     omega (arith, mul-le-mul_right cells l, add-mul p 1 cells, one-mul cells)
 
 -- A move's number is one of levels × levels, and these are at most `changes_max`.
-pub move-lt : (levels p j : ℕ) → p < levels → j < levels → p * levels + j < levels * levels
-move-lt levels p j h l = omega (arith, level_end p levels levels h)
+pub move_lt : (levels p j : ℕ) → p < levels → j < levels → p * levels + j < levels * levels
+move_lt levels p j h l = omega (arith, level_end p levels levels h)
 
 pub move_few : (levels p j : ℕ) → levels ≤ levels_max → p < levels → j < levels → p * levels + j < changes_max
-move_few levels p j e h l = omega (arith, move-lt levels p j h l, mul-le-mul e e)
+move_few levels p j e h l = omega (arith, move_lt levels p j h l, mul-le-mul e e)
 
 -- ---- one more move
 
@@ -44,4 +44,4 @@ module _ (shifts reaches times table : List ℕ) (levels cells at p : ℕ) where
 -- A move leads to a word of its level.
 pub move_within : {levels cells : ℕ} {shifts reaches times : List ℕ} → Moving levels cells shifts reaches times → (p j : ℕ) → p < levels → j < levels
     → get_or reaches (p * levels + j) 0 + get_or shifts (p * levels + j) 0 ≤ cells
-move_within {levels} mv p j hp hj = mv.within (p * levels + j) (move-lt levels p j hp hj)
+move_within {levels} mv p j hp hj = mv.within (p * levels + j) (move_lt levels p j hp hj)

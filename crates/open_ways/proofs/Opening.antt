@@ -12,7 +12,7 @@ use Rattle.word.specs.Word.{far, job_most}
 use Rattle.one_way.specs.Way.{by_way}
 use Rattle.least_way.specs.Least.{least_by}
 use Rattle.open_ways.specs.Moves.{Moving, Lows, relaxed_at, Open}
-use Rattle.open_ways.proofs.Moves.{level_end, move-lt, move_within, relaxed_on, relaxed_off}
+use Rattle.open_ways.proofs.Moves.{level_end, move_lt, move_within, relaxed_on, relaxed_off}
 
 -- ---- a way more in the lists
 
@@ -107,7 +107,7 @@ module _ (shifts reaches times : List ℕ) (levels cells at p y end : ℕ) where
       short w l =
           elim (dec_lt w count) [
             | yes z ↦ rw (cost_before froms costs count from time hf hc w z) (o.short w z)
-            | no z ↦ let e : w ≡ count = omega arith in rw (e, get_or-set_same costs count time 0 hc) (mv.short u (move-lt levels p k hp hk))
+            | no z ↦ let e : w ≡ count = omega arith in rw (e, get_or-set_same costs count time 0 hc) (mv.short u (move_lt levels p k hp hk))
           ]
 
       exact : (t : List ℕ) (q : ℕ) → q < upto - y

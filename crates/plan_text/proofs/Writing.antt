@@ -32,7 +32,7 @@ use Rattle.names.proofs.Forms.{job_name_short}
 use Rattle.writer.specs.Written.{Wrote}
 use Rattle.writer.proofs.Written.{join, wrote_none, wrote_length}
 use Rattle.plan_lines.specs.Lines.{plan_line, job_line, job_line_max}
-use Rattle.plan_text.specs.Text.{job_text_from, planText}
+use Rattle.plan_text.specs.Text.{job_text_from, plan_text}
 use Rattle.plan_text.specs.Handed.{Handed, Ended}
 
 -- One Q line, and the rest.
@@ -105,10 +105,10 @@ module _ {t : List ℕ} {h : Head} {store levels : List ℕ} (w : Handed t h sto
               temperature = omega (arith, v.temperature);
             }
 
-        pub writing-next : (text' : List ℕ) (p' q' n : ℕ) →
+        pub writing_next : (text' : List ℕ) (p' q' n : ℕ) →
             Wrote text q (job_line (next_name (drop p t)) b.level b.time b.energy b.temperature) text' q' → q' ≤ q + job_line_max →
             n ≡ job_lines h.levels → p' ≤ length t → drop p' t ≡ skip n (drop p t) → Writing t h store levels old at text' b p' q' (i + 1)
-        writing-next text' p' q' n u f k y d =
+        writing_next text' p' q' n u f k y d =
             let j = get_or levels i 0 in
             let js = take h.jobs levels in
             let s = sheet_of h store in
@@ -142,6 +142,6 @@ named_line old name other new from next level time energy temperature e w = rw e
 
 -- The P line of a list's figures, and then its Q lines, are its text.
 pub whole_text : (t : List ℕ) (s : Sheet) (js old mid new : List ℕ) (m p q : ℕ) (a : State) → m ≡ s.jobs → a ≡ exact_run s (start s) js →
-    Wrote old 0 (plan_line m a.time a.energy a.temperature) mid p → Wrote mid p (job_text_from (name_of t) s 0 (start s) js) new q → Wrote old 0 (planText t s js) new q
-unfolding planText figures
+    Wrote old 0 (plan_line m a.time a.energy a.temperature) mid p → Wrote mid p (job_text_from (name_of t) s 0 (start s) js) new q → Wrote old 0 (plan_text t s js) new q
+unfolding plan_text figures
 whole_text t s js old mid new m p q a e f v w = join (rw (e, f) at v) w

@@ -20,7 +20,7 @@ job_text_from name s i a (j ∷ js) =
     job_line (name i) j b.time b.energy b.temperature ++ job_text_from name s (suc i) b js
 
 -- "a P line (m, time, energy, final temperature)", and then the Q lines; the names are those of the sheet's text t.
-unfoldable pub planText : List ℕ → Sheet → List ℕ → List ℕ
-planText t s js =
+unfoldable pub plan_text : List ℕ → Sheet → List ℕ → List ℕ
+plan_text t s js =
     let k : Figures = figures s (start s) js in
     plan_line s.jobs k.time k.energy k.temperature ++ job_text_from (name_of t) s 0 (start s) js

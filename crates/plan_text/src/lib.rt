@@ -7,7 +7,7 @@ ghost use Rattle.name_places.specs.Place.{next_name};
 ghost use Rattle.names.specs.Name.{name_of};
 ghost use Rattle.writer.specs.Written.{Wrote};
 ghost use Rattle.plan_lines.specs.Lines.{job_line, job_line_max};
-ghost use Rattle.plan_text.specs.Text.{text_least, job_text_from, planText};
+ghost use Rattle.plan_text.specs.Text.{text_least, job_text_from, plan_text};
 ghost use Rattle.plan_text.specs.Handed.{Ended, Handed};
 
 use run::Run;
@@ -68,7 +68,7 @@ pub fn put_plan(
     text: &mut [u8],
 ) -> usize
     requires { record { handed : Handed s.now head store.now levels.now; room : text_least ≤ length text.old } }
-    ensures wrote { Wrote text.old 0 (planText s.now (sheet_of head store.now) (take head.jobs levels.now)) text.new result }
+    ensures wrote { Wrote text.old 0 (plan_text s.now (sheet_of head store.now) (take head.jobs levels.now)) text.new result }
     ensures upper_bound { result ≤ text_least }
 {
     let m = head.jobs as usize;

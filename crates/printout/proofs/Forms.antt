@@ -13,7 +13,7 @@ use Rattle.demands.proofs.Ways.{answer_ways}
 use Rattle.plan_lines.specs.Lines.{refusal_line}
 use Rattle.store.specs.Store.{jobs_max}
 use Rattle.body.specs.Body.{end_line}
-use Rattle.plan_text.specs.Text.{text_least, planText}
+use Rattle.plan_text.specs.Text.{text_least, plan_text}
 use Rattle.report.specs.declared.Report.{Report}
 use Rattle.report.specs.Report.{table_words, answer_in, report_of, text_after}
 use Rattle.writer.specs.Written.{Wrote}
@@ -24,9 +24,9 @@ abbrev Small : Answer → Type 0
 Small (refused number line field) = (1 ≤ number) × (number ≤ 9) × (line ≤ end_line) × (field ≤ 11)
 Small (found s n a o) = Unit
 
-answer-small : (t : List ℕ) → Small (answer_in t)
+answer_small : (t : List ℕ) → Small (answer_in t)
 unfolding answer_in
-answer-small t =
+answer_small t =
     answer_ways Small (λ n l h. (omega arith, omega arith, omega arith, omega arith)) t table_words jobs_max
     (λ l h. (l, omega arith, refusal_line_most t, refusal_field t)) (λ e h. (omega arith, omega arith, omega arith, omega arith)) (λ e. tt)
 
@@ -41,11 +41,11 @@ module _ (t text text' : List ℕ) (room : text_least ≤ length text) (r : Repo
       Wrote text 0 (printout_for t a) text' r.length
   text_stands (refused number line field) n e w z most = absurd (omega (arith, n, ap (λ (x : Report). x.refusal) e))
   text_stands (found s k a (planned js)) n e w z most =
-      let q : r ≡ record { refusal = 0; line = 0; field = 0; length = length (planText t s js) } = rw (le-ltb (length text) text_least room) at e in
-      let l : r.length ≡ length (planText t s js) = ap (λ (x : Report). x.length) q in
-      let y : length (planText t s js) ≡ 0 + length (planText t s js) = omega arith in
-      let u : text' ≡ planText t s js ++ drop (length (planText t s js)) text = rw (le-ltb (length text) text_least room) at w in
-      record { room = omega (arith, l, most, room); bytes = u ∙ ap (λ (i : ℕ). planText t s js ++ drop i text) y; place = omega (arith, l) }
+      let q : r ≡ record { refusal = 0; line = 0; field = 0; length = length (plan_text t s js) } = rw (le-ltb (length text) text_least room) at e in
+      let l : r.length ≡ length (plan_text t s js) = ap (λ (x : Report). x.length) q in
+      let y : length (plan_text t s js) ≡ 0 + length (plan_text t s js) = omega arith in
+      let u : text' ≡ plan_text t s js ++ drop (length (plan_text t s js)) text = rw (le-ltb (length text) text_least room) at w in
+      record { room = omega (arith, l, most, room); bytes = u ∙ ap (λ (i : ℕ). plan_text t s js ++ drop i text) y; place = omega (arith, l) }
   text_stands (found s k a no_plan) n e w z most =
       let q : r ≡ record { refusal = 10; line = 0; field = 0; length = 0 } = rw (le-ltb (length text) text_least room) at e in
       absurd (omega (arith, ap (λ (x : Report). x.refusal) q))
@@ -55,7 +55,7 @@ module _ (t text text' : List ℕ) (room : text_least ≤ length text) (r : Repo
       Short r × ((text' ≡ text) × (refusal_line r.refusal r.line r.field ≡ printout_for t a))
   line_due (refused number line field) n e w z = rw e (record { number = omega (arith, n); line = n.2; field = n.3 }, (w, refl))
   line_due (found s k a (planned js)) n e w z =
-      let q : r ≡ record { refusal = 0; line = 0; field = 0; length = length (planText t s js) } = rw (le-ltb (length text) text_least room) at e in
+      let q : r ≡ record { refusal = 0; line = 0; field = 0; length = length (plan_text t s js) } = rw (le-ltb (length text) text_least room) at e in
       absurd (z (ap (λ (x : Report). x.refusal) q))
   line_due (found s k a no_plan) n e w z =
       let q : r ≡ record { refusal = 10; line = 0; field = 0; length = 0 } = rw (le-ltb (length text) text_least room) at e in
@@ -65,12 +65,12 @@ module _ (t text text' : List ℕ) (room : text_least ≤ length text) (r : Repo
   module _ (e : r ≡ report_of t (length text) (answer_in t)) (w : text' ≡ text_after t (answer_in t) text) where
     pub printed_plan : r.refusal ≡ 0 → r.length ≤ text_least → Wrote text 0 (printout t) text' r.length
     unfolding printout
-    printed_plan z most = text_stands (answer_in t) (answer-small t) e w z most
+    printed_plan z most = text_stands (answer_in t) (answer_small t) e w z most
 
     module _ (z : ¬ (r.refusal ≡ 0)) where
       pub printed_short : Short r
-      printed_short = (line_due (answer_in t) (answer-small t) e w z).0
+      printed_short = (line_due (answer_in t) (answer_small t) e w z).0
 
       pub printed_line : (new : List ℕ) (n : ℕ) → Wrote text' 0 (refusal_line r.refusal r.line r.field) new n → Wrote text 0 (printout t) new n
       unfolding printout
-      printed_line new n v = let d = line_due (answer_in t) (answer-small t) e w z in rw (d.1.0, d.1.1) at v
+      printed_line new n v = let d = line_due (answer_in t) (answer_small t) e w z in rw (d.1.0, d.1.1) at v

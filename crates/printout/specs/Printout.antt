@@ -4,13 +4,13 @@ use Rattle.std.specs.Prelude.{List, ℕ}
 use Rattle.frame.specs.Demands.{planned, no_plan}
 use Rattle.reply.specs.Answer.{Answer, refused, found}
 use Rattle.plan_lines.specs.Lines.{refusal_line}
-use Rattle.plan_text.specs.Text.{planText}
+use Rattle.plan_text.specs.Text.{plan_text}
 use Rattle.report.specs.Report.{answer_in}
 
 -- "a P line .. and for each job a Q line .., or one R line (refusal, line, field)"; "no plan" is 10, line 0, field 0.
 abbrev pub printout_for : List ℕ → Answer → List ℕ
 printout_for t (refused number line field) = refusal_line number line field
-printout_for t (found s n a (planned js)) = planText t s js
+printout_for t (found s n a (planned js)) = plan_text t s js
 printout_for t (found s n a no_plan) = refusal_line 10 0 0
 
 -- "`plan` .. uses the same table".

@@ -56,5 +56,5 @@ accepted Hot away go = away Hot
 accepted (Trailing line) away go = away (Trailing line)
 
 -- A refusal's number, line and field, side by side.
-abbrev pub codeAs : ℕ → ℕ → ℕ → RefusalCode
-codeAs number line field = record { number = number; line = line; field = field }
+abbrev pub code_as : ℕ → ℕ → ℕ → RefusalCode
+code_as number line field = record { number = number; line = line; field = field }

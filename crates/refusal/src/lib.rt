@@ -1,7 +1,7 @@
 #![tactic(auto)]
 
 ghost use Rattle.std.specs.Prelude.{◌≡◌};
-ghost use Rattle.refusal.specs.Code.{refusal_of, number_of, line_of, field_of, codeAs};
+ghost use Rattle.refusal.specs.Code.{refusal_of, number_of, line_of, field_of, code_as};
 
 use fields::Fault;
 
@@ -39,7 +39,7 @@ pub fn as_refusal(f: Fault, line: usize) -> Refusal
 
 // The three side by side.
 fn code(number: u32, line: usize, field: usize) -> RefusalCode
-    ensures { result ≡ codeAs number line field }
+    ensures { result ≡ code_as number line field }
 {
     RefusalCode {
         number,
@@ -50,7 +50,7 @@ fn code(number: u32, line: usize, field: usize) -> RefusalCode
 
 // The numbers of a refusal; all 0 for none.
 pub fn code_of(f: Refusal) -> RefusalCode
-    ensures { result ≡ codeAs (number_of f) (line_of f) (field_of f) }
+    ensures { result ≡ code_as (number_of f) (line_of f) (field_of f) }
 {
     match f {
         Refusal::Nothing => code(0, 0, 0),

@@ -12,19 +12,19 @@ use Rattle.frame.specs.Run.{State, start}
 use Rattle.frame.specs.Demands.{Outcome, planned, no_plan}
 use Rattle.frame.specs.Demands as frame
 use Rattle.frame.specs.Plan.{frame_outcome}
-use Rattle.frame.proofs.Demand3.{frame-demand2}
+use Rattle.frame.proofs.Demand3.{frame_demand2}
 use Rattle.store.specs.Store.{jobs_max, levels_max}
 use Rattle.store.specs.Figures.{sheet_of}
 use Rattle.refusal.specs.declared.Refusal.{Refusal}
 use Rattle.refusal.specs.declared.Refusal.TheVariants.{Nothing}
-use Rattle.sheet.specs.Reading.{SheetRead, reading_of, sheetIn}
+use Rattle.sheet.specs.Reading.{SheetRead, reading_of, sheet_in}
 use Rattle.sheet.proofs.Ranges.{read_ranges}
 use Rattle.reply.specs.declared.Reply.{Reply}
 use Rattle.reply.specs.Answer.{Answer, refused, found, Answers}
 use Rattle.solve.proofs.Finding.{on_levels}
 use Rattle.demands.specs.Order.{answer_of}
 use Rattle.demands.proofs.Ways.{answer_ways}
-use Rattle.plan_text.specs.Text.{text_least, planText}
+use Rattle.plan_text.specs.Text.{text_least, plan_text}
 use Rattle.writer.specs.Written.{Wrote}
 use Rattle.report.specs.declared.Report.{Report}
 use Rattle.report.specs.Report.{refused_report, report_of, text_after}
@@ -32,7 +32,7 @@ use Rattle.report.specs.Report.{refused_report, report_of, text_after}
 -- What holds of every answer to a sheet with a byte for every level: a refusal has a number of 1 to 8, and what is found is found on the sheet that was read.
 abbrev pub Told : List ℕ → Answer → Type 0
 Told t (refused number line field) = (1 ≤ number) × (number ≤ 8)
-Told t (found s n a o) = ((reading_of t).refusal ≡ Nothing) × (s ≡ sheetIn t) × (n ≡ s.jobs) × (a ≡ start s) × (o ≡ frame_outcome s)
+Told t (found s n a o) = ((reading_of t).refusal ≡ Nothing) × (s ≡ sheet_in t) × (n ≡ s.jobs) × (a ≡ start s) × (o ≡ frame_outcome s)
 
 pub answer_told : (t : List ℕ) (words : ℕ) → Told t (answer_of t words jobs_max)
 answer_told t words =
@@ -40,8 +40,8 @@ answer_told t words =
     (λ e h. absurd (omega (arith, h, (read_ranges t e).jobs.high))) (λ e. (e, refl, refl, refl, refl))
 
 -- What is found meets demand 2.
-pub told-best : (t : List ℕ) (s : Sheet) (n : ℕ) (a : State) (o : Outcome) → Told t (found s n a o) → frame.OutcomeDemand2 s n a o
-told-best t s n a o w = rw (w.2, w.3, w.4) (frame-demand2 s (rw w.1 (read_ranges t w.0)))
+pub told_best : (t : List ℕ) (s : Sheet) (n : ℕ) (a : State) (o : Outcome) → Told t (found s n a o) → frame.OutcomeDemand2 s n a o
+told_best t s n a o w = rw (w.2, w.3, w.4) (frame_demand2 s (rw w.1 (read_ranges t w.0)))
 
 -- What is written from the start of a part on.
 whole : {old xs new : List ℕ} {next : ℕ} → Wrote old 0 xs new next → new ≡ xs ++ drop (length xs) old
@@ -49,12 +49,12 @@ whole {old} {xs} w = let z : 0 + length xs ≡ length xs = omega arith in w.byte
 
 -- The head and the store that were read are those of the text.
 module _ (t : List ℕ) (r : SheetRead) (e : r ≡ reading_of t) where
-  pub read_wrote : (old levels new : List ℕ) (n : ℕ) → Wrote old 0 (planText t (sheet_of r.head r.store) (take r.head.jobs levels)) new n →
-      Wrote old 0 (planText t (sheetIn t) (take (sheetIn t).jobs levels)) new n
+  pub read_wrote : (old levels new : List ℕ) (n : ℕ) → Wrote old 0 (plan_text t (sheet_of r.head r.store) (take r.head.jobs levels)) new n →
+      Wrote old 0 (plan_text t (sheet_in t) (take (sheet_in t).jobs levels)) new n
   unfolding sheet_of
-  read_wrote old levels new n w = subst (λ (x : SheetRead). Wrote old 0 (planText t (sheet_of x.head x.store) (take x.head.jobs levels)) new n) e w
+  read_wrote old levels new n w = subst (λ (x : SheetRead). Wrote old 0 (plan_text t (sheet_of x.head x.store) (take x.head.jobs levels)) new n) e w
 
-  pub read_jobs : r.head.jobs ≡ (sheetIn t).jobs
+  pub read_jobs : r.head.jobs ≡ (sheet_in t).jobs
   unfolding sheet_of
   read_jobs = ap (λ (x : SheetRead). x.head.jobs) e
 
@@ -99,23 +99,23 @@ module _ (t : List ℕ) (text words words' bytes bytes' : List ℕ) (p : Reply) 
     told_read (refused number line field) n w = absurd (omega (arith, n, ap (λ (x : Reply). x.refusal) w.reply))
     told_read (found s k a o) n w = n.0
 
-    pub told_levels : (a : Answer) → Told t a → Answers a words words' bytes bytes' p → (i : ℕ) → i < (sheetIn t).jobs → get_or bytes' i 0 < levels_max
+    pub told_levels : (a : Answer) → Told t a → Answers a words words' bytes bytes' p → (i : ℕ) → i < (sheet_in t).jobs → get_or bytes' i 0 < levels_max
     told_levels (refused number line field) n w i h = absurd (omega (arith, n, ap (λ (x : Reply). x.refusal) w.reply))
     told_levels (found s k a (planned js)) n w i h =
         let ok : Ranges s = rw n.1 (read_ranges t n.0) in
         let l : i < k = rw (n.2, n.1) h in
-        omega (arith, on_levels s k a words words' bytes bytes' (planned js) (told-best t s k a (planned js) n) refl w.part i l, ok.levels.high)
+        omega (arith, on_levels s k a words words' bytes bytes' (planned js) (told_best t s k a (planned js) n) refl w.part i l, ok.levels.high)
     told_levels (found s k a no_plan) n w i h = absurd (omega (arith, ap (λ (x : Reply). x.refusal) w.reply))
 
     pub told_plan : (a : Answer) → Told t a → Answers a words words' bytes bytes' p → text_least ≤ length text → (new : List ℕ) (n : ℕ) (q : Report) → n ≤ text_least →
-        Wrote text 0 (planText t (sheetIn t) (take (sheetIn t).jobs bytes')) new n →
+        Wrote text 0 (plan_text t (sheet_in t) (take (sheet_in t).jobs bytes')) new n →
         q ≡ record { refusal = 0; line = 0; field = 0; length = n } → Promise a q new
     told_plan (refused number line field) m w room new n q most v e = absurd (omega (arith, m, ap (λ (x : Reply). x.refusal) w.reply))
     told_plan (found s i a (planned js)) m w room new n q most v e =
-        let z : take i bytes' ≡ js = ap (take i) w.part ∙ take_at js (drop i bytes) i (told-best t s i a (planned js) m).keeps.levels.size in
-        let y : take (sheetIn t).jobs bytes' ≡ js = ap (λ (x : Sheet). take x.jobs bytes') (sym m.1) ∙ ap (λ (x : ℕ). take x bytes') (sym m.2) ∙ z in
-        let u : Wrote text 0 (planText t s js) new n =
-        subst (λ (x : Sheet). Wrote text 0 (planText t x js) new n) (sym m.1) (subst (λ (xs : List ℕ). Wrote text 0 (planText t (sheetIn t) xs) new n) y v) in
-        let k : n ≡ length (planText t s js) = omega (arith, u.place) in
+        let z : take i bytes' ≡ js = ap (take i) w.part ∙ take_at js (drop i bytes) i (told_best t s i a (planned js) m).keeps.levels.size in
+        let y : take (sheet_in t).jobs bytes' ≡ js = ap (λ (x : Sheet). take x.jobs bytes') (sym m.1) ∙ ap (λ (x : ℕ). take x bytes') (sym m.2) ∙ z in
+        let u : Wrote text 0 (plan_text t s js) new n =
+        subst (λ (x : Sheet). Wrote text 0 (plan_text t x js) new n) (sym m.1) (subst (λ (xs : List ℕ). Wrote text 0 (plan_text t (sheet_in t) xs) new n) y v) in
+        let k : n ≡ length (plan_text t s js) = omega (arith, u.place) in
         rw (le-ltb (length text) text_least room) (e ∙ ap (λ (x : ℕ). record { refusal = 0; line = 0; field = 0; length = x }) k, (whole u, rw e most))
     told_plan (found s i a no_plan) m w room new n q most v e = absurd (omega (arith, ap (λ (x : Reply). x.refusal) w.reply))

@@ -7,7 +7,7 @@ use Rattle.frame.specs.Demands.{Outcome, planned, no_plan}
 use Rattle.store.specs.Store.{jobs_max}
 use Rattle.reply.specs.Answer.{Answer, refused, found}
 use Rattle.demands.specs.Order.{answer_of}
-use Rattle.plan_text.specs.Text.{text_least, planText}
+use Rattle.plan_text.specs.Text.{text_least, plan_text}
 use Rattle.report.specs.declared.Report.{Report}
 
 -- "the table is 16,384 words inside the call"
@@ -25,7 +25,7 @@ refused_report number line field = record { refusal = number; line = line; field
 
 -- What is found, for a part that is large enough.
 abbrev pub report_found : List ℕ → Sheet → Outcome → Report
-report_found t s (planned js) = record { refusal = 0; line = 0; field = 0; length = length (planText t s js) }
+report_found t s (planned js) = record { refusal = 0; line = 0; field = 0; length = length (plan_text t s js) }
 report_found t s no_plan = refused_report 10 0 0
 
 -- The report on a sheet with a part of so many bytes: the refusal, or the text's length. The part is tested after 8 and before 10.
@@ -35,7 +35,7 @@ report_of t room (found s n a o) = cond (ltb room text_least) (refused_report 9 
 
 -- What is found, in the part: a plan's text at its start; "bytes beyond it stay".
 abbrev pub part_found : List ℕ → Sheet → Outcome → List ℕ → List ℕ
-part_found t s (planned js) part = planText t s js ++ drop (length (planText t s js)) part
+part_found t s (planned js) part = plan_text t s js ++ drop (length (plan_text t s js)) part
 part_found t s no_plan part = part
 
 -- The part afterwards; a refusal leaves it.

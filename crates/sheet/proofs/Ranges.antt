@@ -18,12 +18,12 @@ use Rattle.lines.specs.Lines.{Found, block_from}
 use Rattle.line_kinds.specs.declared.Kind.TheVariants.{Level, Change, Work}
 use Rattle.fields.proofs.Within.{cond_cases}
 use Rattle.fields.proofs.After.{after_cases}
-use Rattle.lines.proofs.Kept.{Kept, kept_zeros, block_kept, Fits, fits_zero, level_takes, change-takes, work-takes, Timed, work_stays, work_timed}
-use Rattle.body.specs.Body.{body_line, onward, changes_from, jobs_from, bodyFrom}
+use Rattle.lines.proofs.Kept.{Kept, kept_zeros, block_kept, Fits, fits_zero, level_takes, change_takes, work_takes, Timed, work_stays, work_timed}
+use Rattle.body.specs.Body.{body_line, onward, changes_from, jobs_from, body_from}
 use Rattle.refusal.specs.declared.Refusal.TheVariants.{Nothing}
 use Rattle.store.specs.Store.{jobs_max, levels_max, changes_max, works_max, powers, change_times, change_energies, job_times, job_energies, decays, store_size}
 use Rattle.sheet.specs.declared.Reading.{Reading}
-use Rattle.sheet.specs.Reading.{SheetRead, read_in, reading_of, sheetIn}
+use Rattle.sheet.specs.Reading.{SheetRead, read_in, reading_of, sheet_in}
 use Rattle.store.specs.Figures.{figure_at, sheet_of}
 use Rattle.head.specs.Head.{head_as, head_los, head_his}
 use Rattle.sheet.proofs.Whole.{read_whole}
@@ -46,7 +46,7 @@ module _ (resistance m l : ℕ) (jobs : m ≤ jobs_max) (few : l ≤ levels_max)
   changes_kept zero p t ln st h z = z
   changes_kept (suc n) p t ln st h z =
       let f = block_from (Change p) (p * levels_max) l 0 t ln st in
-      let y = block_kept (Fits resistance) (Change p) (p * levels_max) l (omega arith) (λ j line a. change-takes resistance p (omega arith) j line (omega arith)) l 0 t ln st (omega arith) z in
+      let y = block_kept (Fits resistance) (Change p) (p * levels_max) l (omega arith) (λ j line a. change_takes resistance p (omega arith) j line (omega arith)) l 0 t ln st (omega arith) z in
       after_cases (λ (g : Found). Kept (Fits resistance) g.store) f.fault f _ (λ o. y) (λ s. changes_kept n (p + 1) f.rest f.line f.store (omega arith) y)
 
   -- The lines of the next n jobs, with the times of i jobs in the store.
@@ -58,7 +58,7 @@ module _ (resistance m l : ℕ) (jobs : m ≤ jobs_max) (few : l ≤ levels_max)
       let P = Filled resistance m l in
       let fault = name_fault (until 10 t) in
       let f = block_from Work (i * levels_max) l 0 (beyond 10 t) (ln + 1) st in
-      let y = block_kept (Fits resistance) Work (i * levels_max) l (omega arith) (λ j line a. work-takes resistance (i * levels_max + j) j line (omega arith)) l 0 (beyond 10 t) (ln + 1) st (omega arith) z in
+      let y = block_kept (Fits resistance) Work (i * levels_max) l (omega arith) (λ j line a. work_takes resistance (i * levels_max + j) j line (omega arith)) l 0 (beyond 10 t) (ln + 1) st (omega arith) z in
       cond_cases P (ahead 10 t) _ _
       (λ a. after_cases P fault _ _ (stopped _ z)
       (λ s. after_cases P f.fault f _ (stopped f y)
@@ -72,8 +72,8 @@ module _ (resistance m l : ℕ) (jobs : m ≤ jobs_max) (few : l ≤ levels_max)
       (λ a. stopped _ z shapeless)
 
   -- All of them.
-  body_filled : (t : List ℕ) (ln : ℕ) (st : List ℕ) → Kept (Fits resistance) st → Filled resistance m l (bodyFrom m l resistance t ln st)
-  unfolding bodyFrom
+  body_filled : (t : List ℕ) (ln : ℕ) (st : List ℕ) → Kept (Fits resistance) st → Filled resistance m l (body_from m l resistance t ln st)
+  unfolding body_from
   body_filled t ln st z =
       let f = block_from (Level resistance) 0 l 0 t ln st in
       let y = block_kept (Fits resistance) (Level resistance) 0 l (omega arith) (λ j line a. level_takes resistance j line (omega arith)) l 0 t ln st (omega arith) z in
@@ -137,7 +137,7 @@ module _ (version : ℕ) (vs st : List ℕ) (h : Held head_los (head_his (get_or
 -- ---- a whole sheet
 
 -- The figures of a sheet that is read without refusal keep the ranges of document 01.
-pub read_ranges : (t : List ℕ) → (reading_of t).refusal ≡ Nothing → Ranges (sheetIn t)
+pub read_ranges : (t : List ℕ) → (reading_of t).refusal ≡ Nothing → Ranges (sheet_in t)
 read_ranges t e =
     let w = read_whole t e in
     let resistance = get_or w.vs 7 0 in

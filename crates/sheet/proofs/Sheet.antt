@@ -17,9 +17,9 @@ use Rattle.fields.proofs.After.{Other, after_other}
 use Rattle.refusal.specs.declared.Refusal.{Refusal}
 use Rattle.refusal.specs.declared.Refusal.TheVariants.{Nothing, TooLong, Line, Hot, Trailing}
 use Rattle.refusal.specs.Code.{refusal_of}
-use Rattle.body.specs.Body.{body_line, bodyFrom}
+use Rattle.body.specs.Body.{body_line, body_from}
 use Rattle.store.specs.declared.Head.{Head}
-use Rattle.head.specs.Head.{head_as, versionFields, head_fields}
+use Rattle.head.specs.Head.{head_as, version_fields, head_fields}
 use Rattle.sheet.specs.declared.Reading.{Reading}
 use Rattle.sheet.specs.Reading.{read_in, clear, refused_reading, refused_read, figures_from, head_from, reading_of}
 
@@ -31,8 +31,8 @@ refused_clear r st f e z = rw (e, z) refl
 -- ---- from line 3 on
 
 -- The lines are read to a store that was clear.
-module _ (version : ℕ) (vs t : List ℕ) {store : List ℕ} (z : store ≡ clear) (f : Found) (e : f ≡ bodyFrom (get_or vs 0 0) (get_or vs 1 0) (get_or vs 7 0) t body_line store) where
-  to_clear : f ≡ bodyFrom (get_or vs 0 0) (get_or vs 1 0) (get_or vs 7 0) t body_line clear
+module _ (version : ℕ) (vs t : List ℕ) {store : List ℕ} (z : store ≡ clear) (f : Found) (e : f ≡ body_from (get_or vs 0 0) (get_or vs 1 0) (get_or vs 7 0) t body_line store) where
+  to_clear : f ≡ body_from (get_or vs 0 0) (get_or vs 1 0) (get_or vs 7 0) t body_line clear
   to_clear = rw z at e
 
   pub figures_fault : Other f.fault → refused_read (refusal_of f.fault f.line) ≡ figures_from version vs t
@@ -76,21 +76,21 @@ module _ (version : ℕ) (s : List ℕ) (at : ℕ) (r : Scan) (z : LineAt s at r
     from_head_on f h =
         rw (line_ahead z head_inside, head_same, f, le-ltb (get_or fields.values 5 0) (get_or fields.values 6 0) h, line_beyond z) refl
 
-pub sheet-long : (s : List ℕ) → 20480 < length s → refused_read TooLong ≡ reading_of s
+pub sheet_long : (s : List ℕ) → 20480 < length s → refused_read TooLong ≡ reading_of s
 unfolding reading_of
-sheet-long s h = rw (lt-ltb 20480 (length s) h) refl
+sheet_long s h = rw (lt-ltb 20480 (length s) h) refl
 
 module _ (s : List ℕ) (short : length s ≤ 20480) (r : Scan) (z : LineAt s 0 r) where
   pub sheet_missing : r.end ≡ length s → refused_read (Line 1) ≡ reading_of s
   unfolding reading_of
   sheet_missing e = rw (le-ltb 20480 (length s) short, line_missing z (omega arith) (omega arith)) refl
 
-  module _ (n : r.end ≡ length s → ⊥) (fields : Fields) (e : fields ≡ versionFields (part 0 r.end s)) where
+  module _ (n : r.end ≡ length s → ⊥) (fields : Fields) (e : fields ≡ version_fields (part 0 r.end s)) where
     version_inside : r.end < length s
     version_inside = omega (arith, z.within, n)
 
-    version_same : versionFields (until 10 s) ≡ fields
-    version_same = ap versionFields (sym (line_part z)) ∙ sym e
+    version_same : version_fields (until 10 s) ≡ fields
+    version_same = ap version_fields (sym (line_part z)) ∙ sym e
 
     pub sheet_fault : Other fields.fault → refused_read (refusal_of fields.fault 1) ≡ reading_of s
     unfolding reading_of

@@ -19,19 +19,19 @@ use Rattle.lines.specs.Lines.{Found}
 use Rattle.fields.proofs.Within.{cond_cases}
 use Rattle.fields.proofs.After.{after_cases}
 use Rattle.lines.proofs.Places.{Placed}
-use Rattle.body.specs.Body.{body_line, end_line, bodyFrom}
+use Rattle.body.specs.Body.{body_line, end_line, body_from}
 use Rattle.refusal.specs.declared.Refusal.{Refusal}
 use Rattle.refusal.specs.declared.Refusal.TheVariants.{Nothing, TooLong, Line, Hot, Trailing}
 use Rattle.refusal.specs.Code.{refusal_of, number_of, line_of, field_of}
 use Rattle.store.specs.Store.{store_size, jobs_max, levels_max}
 use Rattle.sheet.specs.Reading.{SheetRead, refused_read, figures_from, head_from, reading_of}
-use Rattle.body.proofs.Body.{body-placed}
-use Rattle.head.specs.Head.{head_as, head_los, head_his, versionFields, head_fields}
+use Rattle.body.proofs.Body.{body_placed}
+use Rattle.head.specs.Head.{head_as, head_los, head_his, version_fields, head_fields}
 use Rattle.head.proofs.Head.{head_held, head_field}
 
 -- What is found in the lines t after an H line of figures vs.
 abbrev pub body_of : List ℕ → List ℕ → Found
-body_of vs t = bodyFrom (get_or vs 0 0) (get_or vs 1 0) (get_or vs 7 0) t body_line (replicate store_size 0)
+body_of vs t = body_from (get_or vs 0 0) (get_or vs 1 0) (get_or vs 7 0) t body_line (replicate store_size 0)
 
 -- The text t is read as r: the V line and the H line are ended, the H line's figures vs are in their ranges, and the lines after
 -- it are sound.
@@ -66,7 +66,7 @@ module _ (t : List ℕ) (P : SheetRead → Type 0) (refused : (r : Refusal) → 
   unfolding figures_from
   figures_cases version vs a b h cool =
       let f = body_of vs (beyond 10 (beyond 10 t)) in
-      let p : Placed end_line f = body-placed _ _ _ _ _ (h.high 0 (omega arith) (omega arith)) (h.high 1 (omega arith) (omega arith)) in
+      let p : Placed end_line f = body_placed _ _ _ _ _ (h.high 0 (omega arith) (omega arith)) (h.high 1 (omega arith) (omega arith)) in
       after_cases P f.fault _ _ (λ o. refused _ (fault_refused f.fault f.line p.line p.field o))
       (λ s. cond_cases P (eqb (length f.rest) 0) _ _
       (λ c. whole _ (record { version = version; vs = vs; first = a; second = b; held = h; cool = cool; sound = s; same = refl }))
@@ -86,9 +86,9 @@ module _ (t : List ℕ) (P : SheetRead → Type 0) (refused : (r : Refusal) → 
 
   -- From line 1 on.
   pub sheet_cases : P (reading_of t)
-  unfolding reading_of versionFields
+  unfolding reading_of version_fields
   sheet_cases =
-      let fields = versionFields (until 10 t) in
+      let fields = version_fields (until 10 t) in
       let rest = cond (ahead 10 t) (after fields.fault (refused_read (refusal_of fields.fault 1)) (head_from (get_or fields.values 0 0) (beyond 10 t))) (refused_read (Line 1)) in
       cond_cases P (ltb 20480 (length t)) (refused_read TooLong) rest (λ a. refused TooLong (omega arith))
       (λ a. cond_cases P (ahead 10 t) _ _

@@ -5,7 +5,7 @@ use Rattle.std.specs.Prelude.{cond, List, ℕ, eqb, ltb, length, get_or, replica
 use Rattle.text.specs.Text.{until, beyond, ahead}
 use Rattle.fields.specs.Fields.{Fields, after}
 use Rattle.lines.specs.Lines.{Found}
-use Rattle.body.specs.Body.{body_line, bodyFrom}
+use Rattle.body.specs.Body.{body_line, body_from}
 use Rattle.frame.specs.Sheet.{Sheet}
 use Rattle.refusal.specs.declared.Refusal.{Refusal}
 use Rattle.refusal.specs.declared.Refusal.TheVariants.{Nothing, TooLong, Line, Hot, Trailing}
@@ -13,7 +13,7 @@ use Rattle.refusal.specs.Code.{refusal_of}
 use Rattle.store.specs.declared.Head.{Head}
 use Rattle.store.specs.Store.{store_size}
 use Rattle.store.specs.Figures.{sheet_of}
-use Rattle.head.specs.Head.{head_as, versionFields, head_fields}
+use Rattle.head.specs.Head.{head_as, version_fields, head_fields}
 use Rattle.sheet.specs.declared.Reading.{Reading}
 
 -- A sheet that is read: its refusal or none, the figures of its V and H lines, and the store of the others.
@@ -41,7 +41,7 @@ refused_read f = read_in (refused_reading f) clear
 -- From line 3 on, with the version and the H line's figures vs: the other lines, and then 6, "bytes after the last line".
 unfoldable pub figures_from : ℕ → List ℕ → List ℕ → SheetRead
 figures_from version vs t =
-    let f : Found = bodyFrom (get_or vs 0 0) (get_or vs 1 0) (get_or vs 7 0) t body_line clear in
+    let f : Found = body_from (get_or vs 0 0) (get_or vs 1 0) (get_or vs 7 0) t body_line clear in
     after f.fault (refused_read (refusal_of f.fault f.line))
     (cond (eqb (length f.rest) 0) (record { refusal = Nothing; head = head_as version vs; store = f.store }) (refused_read (Trailing f.line)))
 
@@ -57,12 +57,12 @@ head_from version t =
 -- A sheet: 1, "sheet over 20,480 bytes", the V line, and the rest.
 unfoldable pub reading_of : List ℕ → SheetRead
 reading_of t =
-    let fields : Fields = versionFields (until 10 t) in
+    let fields : Fields = version_fields (until 10 t) in
     cond (ltb 20480 (length t)) (refused_read TooLong)
     (cond (ahead 10 t)
     (after fields.fault (refused_read (refusal_of fields.fault 1)) (head_from (get_or fields.values 0 0) (beyond 10 t)))
     (refused_read (Line 1)))
 
 -- The sheet that a text holds.
-abbrev pub sheetIn : List ℕ → Sheet
-sheetIn t = let r : SheetRead = reading_of t in sheet_of r.head r.store
+abbrev pub sheet_in : List ℕ → Sheet
+sheet_in t = let r : SheetRead = reading_of t in sheet_of r.head r.store

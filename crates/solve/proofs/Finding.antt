@@ -16,15 +16,15 @@ use Rattle.frame.specs.Afresh.{Readable}
 use Rattle.frame.specs.Plan.{least, plan, outcome}
 use Rattle.frame.specs.Table.{need, filled}
 use Rattle.frame.proofs.Run.{meets_peak}
-use Rattle.frame.proofs.Slack.{rounded-sound}
-use Rattle.frame.proofs.Afresh.{left_demand2, spent-none}
+use Rattle.frame.proofs.Slack.{rounded_sound}
+use Rattle.frame.proofs.Afresh.{left_demand2, spent_none}
 use Rattle.run.specs.Run.{state_of}
 use Rattle.run.specs.declared.Run.{Run}
 use Rattle.table.specs.declared.Frame.{Frame}
 use Rattle.table.specs.Table.{Axes}
 use Rattle.lookup.specs.Lookup.{Looks, rest_in}
 use Rattle.lookup.proofs.Lookup.{rest_is, rest_least, looks}
-use Rattle.table.proofs.Cells.{filled-words}
+use Rattle.table.proofs.Cells.{filled_words}
 use Rattle.walk.specs.Walk.{Starts}
 use Rattle.reply.specs.declared.Reply.{Reply}
 use Rattle.reply.specs.Answer.{found, planned_as, refused_reply, table_after, part_after, Answers}
@@ -38,7 +38,7 @@ module _ {s : Sheet} {f : Frame} (x : Axes s f) (b : Run) (w : Readable s (state
 
   pub start_rest : (words words' : List ℕ) (k : ℕ) → need s ≤ length words → words' ≡ filled s words → k ≡ rest_in f words' b → k ≡ least s (s.jobs - b.done) (state_of b)
   start_rest words words' k room t q =
-      q ∙ rest_is x b words' ∙ rest_least x.ranges (state_of b) (rw t (filled-words s words b.done room)) w.range.level u w.temperature
+      q ∙ rest_is x b words' ∙ rest_least x.ranges (state_of b) (rw t (filled_words s words b.done room)) w.range.level u w.temperature
 
 -- ---- what is found
 
@@ -51,7 +51,7 @@ module _ (s : Sheet) (n : ℕ) (a : State) where
   -- Energy past its limit: no plan, and the table is filled all the same.
   pub finds_spent : {words words' bytes bytes' : List ℕ} → Ranges s → 1 ≤ n → a.peak ≤ s.temperature_limit → s.energy_budget < a.energy →
       words' ≡ filled s words → bytes' ≡ bytes → Finds s n a words words' bytes bytes' false
-  finds_spent ok some cool h w p = found_none (spent-none s ok n some a cool h) w p
+  finds_spent ok some cool h w p = found_none (spent_none s ok n some a cool h) w p
 
 module _ (s : Sheet) (n : ℕ) (a : State) (k : ℕ) (e : k ≡ least s n a) where
   -- The deadline is compared with it alone.
@@ -104,7 +104,7 @@ module _ (s : Sheet) (n : ℕ) (a : State) (words words' bytes bytes' : List ℕ
         reply = rw (z, d) refl;
         table = w;
         part = p;
-        peak = record { low = omega (arith, k); high = omega (arith, k, meets_peak s exact s.deadline js a m (rounded-sound s ok (limits s) js a b.keeps.meets)) };
+        peak = record { low = omega (arith, k); high = omega (arith, k, meets_peak s exact s.deadline js a m (rounded_sound s ok (limits s) js a b.keeps.meets)) };
       }
   on_plan no_plan ok m b t w p c q e z = absurd (true≢false (sym t))
 

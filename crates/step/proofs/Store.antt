@@ -19,7 +19,7 @@ use Rattle.run.specs.Run.{FiguresOf, Bounds}
 use Rattle.run.specs.declared.Run.{Run}
 use Rattle.run.specs.declared.Change.{Change}
 use Rattle.run.specs.declared.Job.{Job}
-use Rattle.step.specs.Store.{steadies, change_in, jobIn, Stored, Rests}
+use Rattle.step.specs.Store.{steadies, change_in, job_in, Stored, Rests}
 
 -- ---- a sheet that was read
 
@@ -80,7 +80,7 @@ worked_all {levels = levels} l w = tabulated _ levels_max levels w.long (λ i h.
 
 module _ {s : Sheet} {store steady : List ℕ} (h : Stored s store steady) where
   pub figures_of : (a : Run) (j : ℕ) (c : Change) (b : Job) → a.done < jobs_max → a.level < levels_max → j < levels_max →
-      c ≡ change_in store a.level j → b ≡ jobIn store steady a.done j → FiguresOf s a j c b
+      c ≡ change_in store a.level j → b ≡ job_in store steady a.done j → FiguresOf s a j c b
   figures_of a j c b hi hp hj p q =
       rw (p, q)
       (record {
@@ -109,5 +109,5 @@ module _ {s : Sheet} {store steady : List ℕ} (h : Stored s store steady) where
             };
       }
 
-pub bounds : {a : Run} {store steady : List ℕ} {j : ℕ} (b : Job) → Rests a store steady j → b ≡ jobIn store steady a.done j → Bounds a b
+pub bounds : {a : Run} {store steady : List ℕ} {j : ℕ} (b : Job) → Rests a store steady j → b ≡ job_in store steady a.done j → Bounds a b
 bounds b r q = rw q (omega (arith, r))

@@ -20,8 +20,8 @@ change_in store p j =
     record { time = get_or store (change_times + (p * levels_max + j)) 0; energy = get_or store (change_energies + (p * levels_max + j)) 0 }
 
 -- What the store and the list have of job i at level j.
-abbrev pub jobIn : List ℕ → List ℕ → ℕ → ℕ → Job
-jobIn store steady i j =
+abbrev pub job_in : List ℕ → List ℕ → ℕ → ℕ → Job
+job_in store steady i j =
     record {
       time = get_or store (job_times + (i * levels_max + j)) 0;
       energy = get_or store (job_energies + (i * levels_max + j)) 0;

@@ -7,7 +7,7 @@ ghost use Rattle.frame.specs.Run.{start, step, exact_run};
 ghost use Rattle.store.specs.Store.{jobs_max, levels_max, powers};
 ghost use Rattle.store.specs.Figures.{sheet_of};
 ghost use Rattle.run.specs.Run.{state_of};
-ghost use Rattle.step.specs.Store.{steadies, change_in, jobIn, Stored, Rests, Begun};
+ghost use Rattle.step.specs.Store.{steadies, change_in, job_in, Stored, Rests, Begun};
 
 use run::{Change, Job, Run};
 use store::{
@@ -50,7 +50,7 @@ fn change_at(store: &[u32; STORE_SIZE], p: u32, j: u32) -> Change
 // The figures of job i at level j.
 fn job_at(store: &[u32; STORE_SIZE], steady: &[u32; LEVELS_MAX], i: u32, j: u32) -> Job
     requires { (i < jobs_max) × (j < levels_max) }
-    ensures { result ≡ jobIn store.now steady.now i j }
+    ensures { result ≡ job_in store.now steady.now i j }
 {
     let n = j as usize;
     let k = i as usize * LEVELS_MAX + n;

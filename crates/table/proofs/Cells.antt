@@ -36,22 +36,22 @@ module _ (s : Sheet) (ok : Ranges s) where
       let l : a ≤ ceil_div s.energy_budget s.energy_step = omega arith in
       omega (arith, mul-le-mul_right s.energy_step l, raise_le s.energy_step s.energy_budget, ok.energy_budget, ok.energy_step)
 
-  pub cell-temperature : (b : ℕ) → b < temperature_cells s → b * s.temperature_step ≤ raised_temperature_max
+  pub cell_temperature : (b : ℕ) → b < temperature_cells s → b * s.temperature_step ≤ raised_temperature_max
   unfolding temperature_cells raise
-  cell-temperature b h =
+  cell_temperature b h =
       let l : b ≤ ceil_div s.temperature_limit s.temperature_step = omega arith in
       omega (arith, mul-le-mul_right s.temperature_step l, raise_warmest s.temperature_step s.temperature_limit ok.temperature_step.low ok.temperature_step.high ok.temperature_limit)
 
-  pub at-cell : (i p a b : ℕ) → i < s.jobs → p < s.levels → a < energy_cells s → b < temperature_cells s → AtCell s (cell s i p a b)
+  pub at_cell : (i p a b : ℕ) → i < s.jobs → p < s.levels → a < energy_cells s → b < temperature_cells s → AtCell s (cell s i p a b)
   unfolding raised
-  at-cell i p a b hi hp ha hb =
+  at_cell i p a b hi hp ha hb =
       record {
         anew = refl;
         up = rw (raise_multiple s.energy_step a ok.energy_step.low, raise_multiple s.temperature_step b ok.temperature_step.low) refl;
         done = hi;
         level = hp;
         energy = cell_energy a ha;
-        temperature = cell-temperature b hb;
+        temperature = cell_temperature b hb;
       }
 
 -- A level has at most as many words as a table.
@@ -69,9 +69,9 @@ module _ {s : Sheet} {f : Frame} (g : Axes s f) where
       omega (arith, cells_small, g.temperature_count, mul-le-mul_right (temperature_cells s) h)
 
 -- A filled table holds the words of all jobs.
-pub filled-words : (s : Sheet) (old : List ℕ) (i : ℕ) → need s ≤ length old → Holds s (filled s old) i
+pub filled_words : (s : Sheet) (old : List ℕ) (i : ℕ) → need s ≤ length old → Holds s (filled s old) i
 unfolding filled need
-filled-words s old i room =
+filled_words s old i room =
     record {
       words = λ h p x y hp hx hy.
           let k = place s i p x y in

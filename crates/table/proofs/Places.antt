@@ -34,9 +34,9 @@ module _ (s : Sheet) where
       )
 
   -- So do the jobs.
-  pub base-next : (i j : ℕ) → base s (suc i) j ≡ base s i j + s.levels * cells s
+  pub base_next : (i j : ℕ) → base s (suc i) j ≡ base s i j + s.levels * cells s
   unfolding base place cells
-  base-next i j =
+  base_next i j =
       let z : suc i * s.levels ≡ i * s.levels + s.levels = omega (arith, add-mul i 1 s.levels) in
       omega (
         arith,
@@ -57,40 +57,40 @@ module _ (s : Sheet) where
         add-mul ((i * s.levels + j) * energy_cells s) (y / temperature_cells s) (temperature_cells s),
       )
 
-  pub base-start : (i : ℕ) → base s i 0 ≡ i * s.levels * energy_cells s * temperature_cells s
+  pub base_start : (i : ℕ) → base s i 0 ≡ i * s.levels * energy_cells s * temperature_cells s
   unfolding base place
-  base-start i = let z : i * s.levels + 0 ≡ i * s.levels = omega arith in rw (z, add-zero (i * s.levels * energy_cells s)) (omega arith)
+  base_start i = let z : i * s.levels + 0 ≡ i * s.levels = omega arith in rw (z, add-zero (i * s.levels * energy_cells s)) (omega arith)
 
   pub base_zero : base s 0 0 ≡ 0
-  base_zero = rw (base-start 0, zero-mul s.levels, zero-mul (energy_cells s), zero-mul (temperature_cells s)) refl
+  base_zero = rw (base_start 0, zero-mul s.levels, zero-mul (energy_cells s), zero-mul (temperature_cells s)) refl
 
   pub base_need : base s s.jobs 0 ≡ need s
   unfolding need
-  base_need = base-start s.jobs
+  base_need = base_start s.jobs
 
   pub base_mono : (i k : ℕ) → i ≤ k → base s i 0 ≤ base s k 0
   base_mono i k h =
       let a = mul-le-mul_right s.levels h in
       let b = mul-le-mul_right (energy_cells s) a in
-      omega (arith, base-start i, base-start k, mul-le-mul_right (temperature_cells s) b)
+      omega (arith, base_start i, base_start k, mul-le-mul_right (temperature_cells s) b)
 
   -- A level's words end before the next job's.
-  pub base-within : (i j : ℕ) → j < s.levels → base s i j + cells s ≤ base s (suc i) 0
-  base-within i j h =
+  pub base_within : (i j : ℕ) → j < s.levels → base s i j + cells s ≤ base s (suc i) 0
+  base_within i j h =
       let l : j + 1 ≤ s.levels = omega arith in
-      omega (arith, base_level i j, base-next i 0, mul-le-mul_right (cells s) l, add-mul j 1 (cells s))
+      omega (arith, base_level i j, base_next i 0, mul-le-mul_right (cells s) l, add-mul j 1 (cells s))
 
   -- A level's words end before the next level's.
-  pub base-before : (i k j : ℕ) → k < j → base s i k + cells s ≤ base s i j
-  base-before i k j h =
+  pub base_before : (i k j : ℕ) → k < j → base s i k + cells s ≤ base s i j
+  base_before i k j h =
       let l : k + 1 ≤ j = omega arith in
       omega (arith, base_level i k, base_level i j, mul-le-mul_right (cells s) l, add-mul k 1 (cells s))
 
 -- ---- by the axes that the code has
 
 -- Where the words of job i at level j begin.
-abbrev pub atBy : Frame → ℕ → ℕ → ℕ
-atBy f i j = (i * f.head.levels + j) * f.energy_cells * f.temperature_cells
+abbrev pub at_by : Frame → ℕ → ℕ → ℕ
+at_by f i j = (i * f.head.levels + j) * f.energy_cells * f.temperature_cells
 
 module _ {s : Sheet} {f : Frame} (g : Axes s f) where
   pub rows_some : 1 ≤ f.energy_cells
@@ -121,17 +121,17 @@ module _ {s : Sheet} {f : Frame} (g : Axes s f) where
   pub start_is : (i : ℕ) → i * f.head.levels * (f.energy_cells * f.temperature_cells) ≡ base s i 0
   start_is i =
       sym (mul_assoc (i * f.head.levels) f.energy_cells f.temperature_cells)
-      ∙ rw (g.levels, g.energy_count, g.temperature_count) (sym (base-start s i))
+      ∙ rw (g.levels, g.energy_count, g.temperature_count) (sym (base_start s i))
 
   module _ (i j : ℕ) (hi : i < s.jobs) (hj : j < s.levels) where
-    pub at_is : atBy f i j ≡ base s i j
+    pub at_is : at_by f i j ≡ base s i j
     unfolding base place
     at_is = rw (g.levels, g.energy_count, g.temperature_count) (omega (arith, add-zero ((i * s.levels + j) * energy_cells s)))
 
     pub at_need : base s i j + cells s ≤ need s
-    at_need = omega (arith, base-within s i j hj, base_mono s (suc i) s.jobs (omega arith), base_need s)
+    at_need = omega (arith, base_within s i j hj, base_mono s (suc i) s.jobs (omega arith), base_need s)
 
-    pub at_small : atBy f i j + cells s ≤ words_max
+    pub at_small : at_by f i j + cells s ≤ words_max
     at_small = omega (arith, at_is, at_need, g.allowed)
 
     pub row_small : (i * f.head.levels + j ≤ words_max) × ((i * f.head.levels + j) * f.energy_cells ≤ words_max)
@@ -139,13 +139,13 @@ module _ {s : Sheet} {f : Frame} (g : Axes s f) where
         let r : (i * f.head.levels + j) * f.energy_cells ≤ words_max = omega (arith, at_small, le-mul_of_pos_right ((i * f.head.levels + j) * f.energy_cells) columns_some) in
         (omega (arith, r, le-mul_of_pos_right (i * f.head.levels + j) rows_some), r)
 
-    pub next_is : atBy f i j + f.head.levels * f.energy_cells * f.temperature_cells ≡ base s (suc i) j
-    next_is = omega (arith, at_is, job_by, base-next s i j)
+    pub next_is : at_by f i j + f.head.levels * f.energy_cells * f.temperature_cells ≡ base s (suc i) j
+    next_is = omega (arith, at_is, job_by, base_next s i j)
 
     pub job_small : f.head.levels * f.energy_cells ≤ words_max
     job_small =
-        let n : s.levels * cells s ≤ words_max = omega (arith, base-next s i 0, base_mono s (suc i) s.jobs (omega arith), base_need s, g.allowed) in
+        let n : s.levels * cells s ≤ words_max = omega (arith, base_next s i 0, base_mono s (suc i) s.jobs (omega arith), base_need s, g.allowed) in
         omega (arith, n, job_by, le-mul_of_pos_right (f.head.levels * f.energy_cells) columns_some)
 
-    pub next-need : suc i < s.jobs → base s (suc i) j + cells s ≤ need s
-    next-need h = omega (arith, base-within s (suc i) j hj, base_mono s (suc (suc i)) s.jobs (omega arith), base_need s)
+    pub next_need : suc i < s.jobs → base s (suc i) j + cells s ≤ need s
+    next_need h = omega (arith, base_within s (suc i) j hj, base_mono s (suc (suc i)) s.jobs (omega arith), base_need s)

@@ -27,6 +27,6 @@ module _ (b : ℕ) (s : List ℕ) (i to : ℕ) where
   found_here h k e =
       omega (arith, ap (before b) (part_here i to s h k) ∙ before_hit b (get_or s i 0) (part (i + 1) to s) e)
 
-  pub found-on : i < to → to ≤ length s → (get_or s i 0 ≡ b → ⊥) → i + before b (part i to s) ≡ i + 1 + before b (part (i + 1) to s)
-  found-on h k n =
+  pub found_on : i < to → to ≤ length s → (get_or s i 0 ≡ b → ⊥) → i + before b (part i to s) ≡ i + 1 + before b (part (i + 1) to s)
+  found_on h k n =
       omega (arith, ap (before b) (part_here i to s h k) ∙ before_pass b (get_or s i 0) (part (i + 1) to s) n)

@@ -84,9 +84,9 @@ part_here a e s h k =
     rw (z, drop_here s a)
 
 -- The part up to the end of the text.
-pub part-all : (a : ℕ) (s : List ℕ) → part a (length s) s ≡ drop a s
+pub part_all : (a : ℕ) (s : List ℕ) → part a (length s) s ≡ drop a s
 unfolding part
-part-all a s = take_all (length s - a) (drop a s) (omega (arith, length-drop a s))
+part_all a s = take_all (length s - a) (drop a s) (omega (arith, length-drop a s))
 
 pub length_part : (a e : ℕ) (s : List ℕ) → e ≤ length s → length (part a e s) ≡ e - a
 unfolding part
@@ -124,9 +124,9 @@ before_le b (c ∷ t) =
       | no n ↦ rw (ne_eqb c b n) (omega (arith, before_le b t))
     ]
 
-pub length-until : (b : ℕ) (t : List ℕ) → length (until b t) ≡ before b t
+pub length_until : (b : ℕ) (t : List ℕ) → length (until b t) ≡ before b t
 unfolding until
-length-until b t = let h = before_le b t in simp length-take (omega arith)
+length_until b t = let h = before_le b t in simp length-take (omega arith)
 
 pub ahead_lt : (b : ℕ) (t : List ℕ) → ahead b t ≡ true → before b t < length t
 unfolding ahead
@@ -147,19 +147,19 @@ count_ahead b (c ∷ t) h =
     ]
 
 -- The byte b that is ahead.
-pub before-byte : (b : ℕ) (t : List ℕ) → before b t < length t → get_or t (before b t) 0 ≡ b
+pub before_byte : (b : ℕ) (t : List ℕ) → before b t < length t → get_or t (before b t) 0 ≡ b
 unfolding before
-before-byte b [] h = absurd (omega arith)
-before-byte b (c ∷ t) h =
+before_byte b [] h = absurd (omega arith)
+before_byte b (c ∷ t) h =
     elim (ℕ_discrete c b) [
       | yes e ↦ rw (eq-eqb c b e) e
-      | no n ↦ rw (ne_eqb c b n) (before-byte b t (omega (arith, rw (ne_eqb c b n) at h)))
+      | no n ↦ rw (ne_eqb c b n) (before_byte b t (omega (arith, rw (ne_eqb c b n) at h)))
     ]
 
 -- The bytes before it, by their places.
-pub until-byte : (b p : ℕ) (s : List ℕ) (i : ℕ) → i < before b (drop p s) → get_or (until b (drop p s)) i 0 ≡ get_or s (p + i) 0
+pub until_byte : (b p : ℕ) (s : List ℕ) (i : ℕ) → i < before b (drop p s) → get_or (until b (drop p s)) i 0 ≡ get_or s (p + i) 0
 unfolding until
-until-byte b p s i h = get_or-take (before b (drop p s)) (drop p s) i 0 h ∙ get_or-drop p s i 0
+until_byte b p s i h = get_or-take (before b (drop p s)) (drop p s) i 0 h ∙ get_or-drop p s i 0
 
 -- ---- scanning a line
 
@@ -200,8 +200,8 @@ module _ (s : List ℕ) (from i tabs : ℕ) (z : Scanned s from i tabs) (h : i <
       let v = ap (count 9) u ∙ count_none 9 in
       record { end = omega arith; tabs = omega arith; within = omega arith }
 
-pub scanned-all : (s : List ℕ) (from i tabs : ℕ) → Scanned s from i tabs → length s ≤ i → LineAt s from (record { end = i; tabs = tabs })
-scanned-all s from i tabs z h =
+pub scanned_all : (s : List ℕ) (from i tabs : ℕ) → Scanned s from i tabs → length s ≤ i → LineAt s from (record { end = i; tabs = tabs })
+scanned_all s from i tabs z h =
     let d = drop_none s i h in
     let e = ap (before 10) d ∙ before_none 10 in
     let u = ap (until 10) d ∙ until_none 10 in

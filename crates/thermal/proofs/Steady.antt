@@ -23,21 +23,21 @@ steady_rounded p r =
     }
 
 -- A number that is not on an exact half lies less than a half away.
-within-half : (x s : ℕ) → x % 10000 ≢ 5000 → s ≡ (x + 5000) / 10000 → distance x s < 5000
-within-half x s e q = elim (dec_lt (x % 10000) 5000) [ yes l ↦ omega arith | no l ↦ omega arith ]
+within_half : (x s : ℕ) → x % 10000 ≢ 5000 → s ≡ (x + 5000) / 10000 → distance x s < 5000
+within_half x s e q = elim (dec_lt (x % 10000) 5000) [ yes l ↦ omega arith | no l ↦ omega arith ]
 
 rounded_nearest : (x s : ℕ) → Rounded x s → NearestEven x s
 rounded_nearest x s h =
     elim (ℕ_discrete (x % 10000) 5000) [
       | yes e ↦ let q = h.half e in record { none_nearer = λ k. omega arith; even = λ k n d. omega arith }
       | no e ↦
-          let q = within-half x s e (h.other e) in
+          let q = within_half x s e (h.other e) in
           record { none_nearer = λ k. omega arith; even = λ k n d. absurd (omega arith) }
     ]
 
 -- The steady-state temperature is the nearest whole number, an exact half the even one.
-pub steady-nearest : (p r : ℕ) → NearestEven (p * r) (steady_state p r)
-steady-nearest p r = rounded_nearest (p * r) (steady_state p r) (steady_rounded p r)
+pub steady_nearest : (p r : ℕ) → NearestEven (p * r) (steady_state p r)
+steady_nearest p r = rounded_nearest (p * r) (steady_state p r) (steady_rounded p r)
 
 -- Two whole numbers as near lie next to each other, and only one of them is even.
 not_below : (x s t : ℕ) → NearestEven x s → NearestEven x t → s < t → ⊥
@@ -53,18 +53,18 @@ at_most x s t h g = elim (dec_le s t) [ yes l ↦ l | no l ↦ absurd (not_below
 pub steady_only : (p r s : ℕ) → NearestEven (p * r) s → s ≡ steady_state p r
 steady_only p r s h =
     let t = steady_state p r in
-    let g = steady-nearest p r in
+    let g = steady_nearest p r in
     le_antisymm (at_most _ s t h g) (at_most _ t s g h)
 
 -- Of two numbers next to each other one is even.
-next-parity : (q : ℕ) → (q + 1) % 2 ≡ 1 - q % 2
-next-parity q = elim (ℕ_discrete (q % 2) 0) [ yes e ↦ omega arith | no e ↦ omega arith ]
+next_parity : (q : ℕ) → (q + 1) % 2 ≡ 1 - q % 2
+next_parity q = elim (ℕ_discrete (q % 2) 0) [ yes e ↦ omega arith | no e ↦ omega arith ]
 
 -- The nearest whole number by one division: with one less where the upper neighbour is odd, an exact half goes to the lower one.
 pub steady_divided : (p r : ℕ) → (p * r + 5000 - (p * r / 10000 + 1) % 2) / 10000 ≡ steady_state p r
 steady_divided p r =
     elim (ℕ_discrete (p * r % 10000) 5000) [
-      | yes h ↦ omega (arith, (steady_rounded p r).half h, next-parity (p * r / 10000))
+      | yes h ↦ omega (arith, (steady_rounded p r).half h, next_parity (p * r / 10000))
       | no h ↦
           elim (dec_lt (p * r % 10000) 5000) [
             | yes l ↦ omega (arith, (steady_rounded p r).other h)
@@ -73,5 +73,5 @@ steady_divided p r =
     ]
 
 -- Where P × R / 10,000 is at most a whole number, so is the steady-state temperature.
-pub steady-within : (p r n : ℕ) → p * r ≤ 10000 * n → steady_state p r ≤ n
-steady-within p r n h = omega (arith, (steady-nearest p r).none_nearer n)
+pub steady_within : (p r n : ℕ) → p * r ≤ 10000 * n → steady_state p r ≤ n
+steady_within p r n h = omega (arith, (steady_nearest p r).none_nearer n)

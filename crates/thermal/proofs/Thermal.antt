@@ -33,9 +33,9 @@ rule_max t s d h =
     )
 
 -- Decay 65,536 keeps the temperature.
-pub rule-keeps : (t s : ℕ) → temperature_after t s 65536 ≡ t
+pub rule_keeps : (t s : ℕ) → temperature_after t s 65536 ≡ t
 unfolding temperature_after ceil_div
-rule-keeps t s = omega arith
+rule_keeps t s = omega arith
 
 -- What a planner may know of a rule of temperature: it is monotone, and it adds no slack (it is nonexpansive).
 pub record Nonexpansive (f : ℕ → ℕ) : Type 0 where

@@ -19,7 +19,7 @@ use Rattle.run.specs.Run.{state_of}
 use Rattle.run.specs.declared.Run.{Run}
 use Rattle.table.specs.declared.Frame.{Frame}
 use Rattle.table.specs.Table.{Axes, AtCell, Holds}
-use Rattle.table.proofs.Cells.{at-cell}
+use Rattle.table.proofs.Cells.{at_cell}
 use Rattle.table.proofs.Ways.{next_level, next_done, next_peak, next_at_cell}
 use Rattle.lookup.specs.Lookup.{rest_by}
 use Rattle.choice.specs.Choice.{level_by}
@@ -35,7 +35,7 @@ module _ {s : Sheet} (ok : Ranges s) where
   -- A state within the limits that has a job to do is raised to a cell.
   raised_at : (b : State) → b.done < s.jobs → b.level < s.levels → b.energy ≤ s.energy_budget → b.temperature ≤ s.temperature_limit → AtCell s (cell_of s b)
   unfolding raise
-  raised_at b d l u v = at-cell s ok b.done b.level _ _ d l (energy_cell s ok b.energy u) (temperature_cell s ok b.temperature v)
+  raised_at b d l u v = at_cell s ok b.done b.level _ _ d l (energy_cell s ok b.energy u) (temperature_cell s ok b.temperature v)
 
   -- The level that the table gives is the plan's.
   pub chosen : (t : List ℕ) (a : State) (r : ℕ) → Holds s t (suc a.done) → a.done + suc r ≡ s.jobs → least s (suc r) a < infeasible →
@@ -71,8 +71,8 @@ module _ {s : Sheet} (ok : Ranges s) where
   pub starts_at : {start a : State} → Starts s start → a ≡ cell_of s start → AtCell s a
   starts_at {start} w e = rw e (raised_at ok start w.done w.level w.energy w.temperature)
 
-  pub starts-plan : (start : State) {a : State} (n : ℕ) → a ≡ cell_of s start → plan s n a ≡ plan s n start
-  starts-plan start n e = rw e (sym (plan_alike s n (alike_cell s ok start)))
+  pub starts_plan : (start : State) {a : State} (n : ℕ) → a ≡ cell_of s start → plan s n a ≡ plan s n start
+  starts_plan start n e = rw e (sym (plan_alike s n (alike_cell s ok start)))
 
   pub starts_way : {start a : State} (n : ℕ) → Starts s start → a ≡ cell_of s start → n ≡ s.jobs - start.done → least s n a < infeasible
   starts_way {start} n w e m = rw (e, ← least_alike s n (alike_cell s ok start), m) w.way

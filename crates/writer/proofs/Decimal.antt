@@ -44,9 +44,9 @@ module _ (P : ℕ → List ℕ → Type 0)
     | no l ↦ rw (digits_more (suc k) n (omega arith)) (more n _ (omega arith) (digits_all k (n / 10) (tenth k n h)))
   ]
 
-  decimal-all : (n : ℕ) → n < 2 ^ 64 → P n (decimal n)
+  decimal_all : (n : ℕ) → n < 2 ^ 64 → P n (decimal n)
   unfolding decimal
-  decimal-all n h = digits_all 19 n (omega arith)
+  decimal_all n h = digits_all 19 n (omega arith)
 
 -- ---- the digits one by one
 
@@ -114,8 +114,8 @@ digits_of_one n h =
       plain = λ t. before_pass 9 (48 + n) t (λ e. omega arith) ∙ omega arith;
     }
 
-digits-of-more : (n : ℕ) (xs : List ℕ) → 10 ≤ n → DigitsOf (n / 10) xs → DigitsOf n (xs ++ ((48 + n % 10) ∷ []))
-digits-of-more n xs h z =
+digits_of_more : (n : ℕ) (xs : List ℕ) → 10 ≤ n → DigitsOf (n / 10) xs → DigitsOf n (xs ++ ((48 + n % 10) ∷ []))
+digits_of_more n xs h z =
     let d = 48 + n % 10 in
     record {
       some = rw length-append (omega arith);
@@ -130,14 +130,14 @@ digits-of-more n xs h z =
     longer zero g = absurd (omega arith)
     longer (suc k) g = rw length-append (omega (arith, z.most k (tenth k n g)))
 
-decimal-digits : (n : ℕ) → n < 2 ^ 64 → DigitsOf n (decimal n)
-decimal-digits = decimal-all DigitsOf digits_of_one digits-of-more
+decimal_digits : (n : ℕ) → n < 2 ^ 64 → DigitsOf n (decimal n)
+decimal_digits = decimal_all DigitsOf digits_of_one digits_of_more
 
 -- ---- what the sheet's reader takes them for
 
 module _ (n : ℕ) (h : n < 10 ^ 10) where
   its : DigitsOf n (decimal n)
-  its = decimal-digits n (omega arith)
+  its = decimal_digits n (omega arith)
 
   pub decimal_most : length (decimal n) ≤ 10
   decimal_most = its.most 9 h

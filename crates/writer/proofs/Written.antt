@@ -46,5 +46,5 @@ module _ {old new : List ℕ} {from : ℕ} (s : List ℕ) (i : ℕ) (w : Wrote o
       let q : from + (i + 1) ≡ from + i + 1 = omega arith in
       rw (q, add-one i, take-suc s i 0 h) (join w (wrote_byte new (from + i) _ (omega (arith, wrote_length w))))
 
-  pub copy-all : i ≡ length s → Wrote old from s new (from + length s)
-  copy-all e = rw (e, take_all (length s) s (omega arith)) at w
+  pub copy_all : i ≡ length s → Wrote old from s new (from + length s)
+  copy_all e = rw (e, take_all (length s) s (omega arith)) at w

@@ -4,8 +4,8 @@ use native.Mathlib.Omega.{arith}
 use mathlib.Core.Path.{ap, ◌∙◌}
 use Rattle.measure.specs.declared.Measured.{Measured}
 use Rattle.measure.proofs.Places.{Near, measured_near}
-use Rattle.c_values.specs.Values.{minus, figuresOf}
-use Rattle.c_values.proofs.Numbers.{number_only, handed-on}
+use Rattle.c_values.specs.Values.{minus, figures_of}
+use Rattle.c_values.proofs.Numbers.{number_only, handed_on}
 use borrow.Author.Rules.{rules}
 use Rattle.begbija.proofs.begbija_measure.Statement.{statement}
 use Rattle.begbija.proofs.begbija_measure.Tie as tie
@@ -27,7 +27,7 @@ returns c =
     let m = w.0 in
     let e = c.before.put-margins.ensures in
     let r = c.count-or-refusal in
-    (handed-on (record { sfits = r.type-inv }) (r.ensures ∙ number_only c.before.before.before.measure.result.refusal ∙ ap (λ (q : Measured). minus q.refusal) m), (e ∙ ap figuresOf m, rw e w.1))
+    (handed_on (record { sfits = r.type-inv }) (r.ensures ∙ number_only c.before.before.before.measure.result.refusal ∙ ap (λ (q : Measured). minus q.refusal) m), (e ∙ ap figures_of m, rw e w.1))
 
 pub begbija_measure_spec : {M : Type 1} → statement M
 begbija_measure_spec =

@@ -3,7 +3,7 @@
 use mathlib.Core.Path.{sym, ap, ◌∙◌}
 use Rattle.reply.specs.declared.Reply.{Reply}
 use Rattle.c_values.specs.Values.{minus}
-use Rattle.c_values.proofs.Numbers.{number_only, handed-on}
+use Rattle.c_values.proofs.Numbers.{number_only, handed_on}
 use borrow.Author.Rules.{rules}
 use Rattle.begbija.proofs.begbija_plan_afresh.Statement.{statement}
 use Rattle.begbija.proofs.begbija_plan_afresh.Tie as tie
@@ -28,7 +28,7 @@ returns c =
     let p = c.before.before.before.before.before.before.before.plan-afresh in
     let e = c.before.put-reply.ensures in
     let r = c.count-or-refusal in
-    (handed-on (record { sfits = r.type-inv }) (r.ensures ∙ number_only p.result.refusal ∙ ap (λ (q : Reply). minus q.refusal) (sym e)), (rw e p.ensures.0, rw e p.ensures.1))
+    (handed_on (record { sfits = r.type-inv }) (r.ensures ∙ number_only p.result.refusal ∙ ap (λ (q : Reply). minus q.refusal) (sym e)), (rw e p.ensures.0, rw e p.ensures.1))
 
 pub begbija_plan_afresh_spec : {M : Type 1} → statement M
 begbija_plan_afresh_spec =

@@ -2,7 +2,7 @@
 -- Assumes nothing.
 use mathlib.Core.Path.{ap, ◌∙◌}
 use Rattle.begbija.specs.Begbija.{text_number}
-use Rattle.c_values.proofs.Numbers.{handed-on}
+use Rattle.c_values.proofs.Numbers.{handed_on}
 use Rattle.begbija.proofs.TextDemands.{text_demands}
 use borrow.Author.Rules.{rules}
 use Rattle.begbija.proofs.begbija_plan_text.Statement.{statement}
@@ -21,7 +21,7 @@ returns : tie.Need-returns
 returns c =
     let w = c.before.before.before.write-plan in
     let r = c.count-or-refusal in
-    let e = handed-on (record { sfits = r.type-inv }) (r.ensures ∙ ap text_number w.ensures.0) in
+    let e = handed_on (record { sfits = r.type-inv }) (r.ensures ∙ ap text_number w.ensures.0) in
     (e, (w.ensures.1.0, text_demands _ _ _ _ e w.ensures.1.0))
 
 pub begbija_plan_text_spec : {M : Type 1} → statement M

@@ -1,5 +1,5 @@
 -- `read_body` reads the L lines, the S lines and the jobs' lines in order, each by its contract; the first fault ends it.
-use Rattle.body.proofs.Body.{body_levels, body_changes, body-jobs}
+use Rattle.body.proofs.Body.{body_levels, body_changes, body_jobs}
 use borrow.Author.Rules.{rules}
 use Rattle.body.proofs.read_body.Statement.{statement}
 use Rattle.body.proofs.read_body.Tie as tie
@@ -41,7 +41,7 @@ same-length-3 c = search rules
 returns-3 : tie.Need-returns-3
 returns-3 c =
     let x = c.before.before.before.before.before.before.before.before.before.before.before.before.before.before.before.before.before.before.args in
-    body-jobs x.s.now x.at x.m x.l x.resistance x.store.now (search rules) (search rules) c.before.before.before.before.before.before.before.before.before.before.before.before.before.before.read-block.ensures c.before.before.before.before.before.before.before.before.before.before.enum_told.given.1 c.before.before.before.before.before.before.before.before.read-changes.ensures c.before.before.before.before.enum-told2.given.1 c.before.before.read_jobs.ensures
+    body_jobs x.s.now x.at x.m x.l x.resistance x.store.now (search rules) (search rules) c.before.before.before.before.before.before.before.before.before.before.before.before.before.before.read-block.ensures c.before.before.before.before.before.before.before.before.before.before.enum_told.given.1 c.before.before.before.before.before.before.before.before.read-changes.ensures c.before.before.before.before.enum-told2.given.1 c.before.before.read_jobs.ensures
 
 pub read_body_spec : {M : Type 1} → statement M
 read_body_spec =

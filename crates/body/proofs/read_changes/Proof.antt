@@ -1,7 +1,7 @@
 -- `read_changes` reads what the definition reads, by an invariant of the levels left whose S lines are read (`Changes`).
 use Prim.Native.Nat.{◌-◌}
 use native.Mathlib.Omega.{arith}
-use Rattle.body.proofs.Body.{Changes, changes_none, changes_all, changes_stop, changes-on}
+use Rattle.body.proofs.Body.{Changes, changes_none, changes_all, changes_stop, changes_on}
 use borrow.Author.Rules.{rules}
 use Rattle.body.proofs.read_changes.Statement.{statement}
 use Rattle.body.proofs.read_changes.Tie as tie
@@ -37,7 +37,7 @@ loop-less : tie.Need-loop-smaller invariant_loop decreases_loop
 loop-less c = search rules
 
 loop-again : tie.Need-loop-preserved invariant_loop decreases_loop
-loop-again c = changes-on c.before.before.before.before.before.before.before.loop.invariant (search rules) _ _ c.before.before.before.before.read-block.ensures c.enum_told.given.1
+loop-again c = changes_on c.before.before.before.before.before.before.before.loop.invariant (search rules) _ _ c.before.before.before.before.read-block.ensures c.enum_told.given.1
 
 same-length-2 : tie.Need-same-length-2 invariant_loop decreases_loop
 same-length-2 c = search rules

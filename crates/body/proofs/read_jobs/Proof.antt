@@ -1,7 +1,7 @@
 -- `read_jobs` reads what the definition reads, by an invariant of the jobs whose lines are read (`Jobs`).
 use Prim.Native.Nat.{◌-◌}
 use native.Mathlib.Omega.{arith}
-use Rattle.body.proofs.Body.{Jobs, jobs_none, jobs_all, jobs_name, jobs_stop, jobs-on}
+use Rattle.body.proofs.Body.{Jobs, jobs_none, jobs_all, jobs_name, jobs_stop, jobs_on}
 use borrow.Author.Rules.{rules}
 use Rattle.body.proofs.read_jobs.Statement.{statement}
 use Rattle.body.proofs.read_jobs.Tie as tie
@@ -52,7 +52,7 @@ loop-less : tie.Need-loop-smaller invariant_loop decreases_loop
 loop-less c = search rules
 
 loop-again : tie.Need-loop-preserved invariant_loop decreases_loop
-loop-again c = jobs-on c.before.before.before.before.before.before.before.before.before.before.loop.invariant (search rules) _ c.before.before.before.before.before.before.before.before.read_name.ensures c.before.before.before.before.before.before.enum_told.given.1 _ _ c.before.before.before.before.read-block.ensures c.enum-told2.given.1
+loop-again c = jobs_on c.before.before.before.before.before.before.before.before.before.before.loop.invariant (search rules) _ c.before.before.before.before.before.before.before.before.read_name.ensures c.before.before.before.before.before.before.enum_told.given.1 _ _ c.before.before.before.before.read-block.ensures c.enum-told2.given.1
 
 same-length-3 : tie.Need-same-length-3 invariant_loop decreases_loop
 same-length-3 c = search rules

@@ -4,7 +4,7 @@ use native.Mathlib.Omega.{arith}
 use Rattle.text.proofs.Scanned.{line_tabs, line_from}
 use Rattle.fast_name_lines.proofs.Name.{name_line}
 use borrow.Author.Rules.{rules}
-use Rattle.body.proofs.Body.{name_missing, name-read}
+use Rattle.body.proofs.Body.{name_missing, name_read}
 use Rattle.body.proofs.read_name.Statement.{statement}
 use Rattle.body.proofs.read_name.Tie as tie
 
@@ -15,7 +15,7 @@ add-t10 : tie.Need-overflow-add-t10
 add-t10 c = omega (arith, (name_line _ _ _ c.before.take-name.ensures c.if1.true).ended)
 
 returns : tie.Need-returns
-returns c = let z = name_line _ _ _ c.before.take-name.ensures c.if1.true in name-read z.line z.ended _ (sym z.sound)
+returns c = let z = name_line _ _ _ c.before.take-name.ensures c.if1.true in name_read z.line z.ended _ (sym z.sound)
 
 scan-line-requires : tie.Need-scan-line-requires
 scan-line-requires c κs = search rules
@@ -30,7 +30,7 @@ add-t11 : tie.Need-overflow-add-t11
 add-t11 c = search rules
 
 returns-3 : tie.Need-returns-3
-returns-3 c = let z = c.before.before.scan-line.ensures in name-read z (omega (arith, z.within, c.before.if2.false)) _ c.check-name.ensures
+returns-3 c = let z = c.before.before.scan-line.ensures in name_read z (omega (arith, z.within, c.before.if2.false)) _ c.check-name.ensures
 
 pub read_name_spec : {M : Type 1} → statement M
 read_name_spec =

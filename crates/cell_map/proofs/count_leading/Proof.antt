@@ -56,8 +56,8 @@ returns-2 c =
     let l = c.before.loop in
     record { most = l.invariant.0; within = l.invariant.1; beyond = λ k g m. absurd (omega (arith, c.loop-test.false)) }
 
-pub count-leading-spec : {M : Type 1} → statement M
-count-leading-spec =
+pub count_leading_spec : {M : Type 1} → statement M
+count_leading_spec =
     tie.close
     (tie.spec
     invariant_loop

@@ -25,5 +25,5 @@ returns-4 c =
     let a = c.before.before.before.args in
     lack_cases (λ x. 0 ≡ x) a.need a.n a.words a.bytes (λ h. absurd (omega (arith, c.before.before.if1.false))) (λ h k. absurd (omega (arith, c.before.if2.false))) (λ h k l. absurd (omega (arith, c.if3.false))) (λ h k l. refl)
 
-pub lack-of-spec : {M : Type 1} → statement M
-lack-of-spec = tie.close (tie.spec returns returns_2 returns-3 returns-4)
+pub lack_of_spec : {M : Type 1} → statement M
+lack_of_spec = tie.close (tie.spec returns returns_2 returns-3 returns-4)

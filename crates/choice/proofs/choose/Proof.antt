@@ -9,7 +9,7 @@ use Rattle.run.specs.Run.{state_of}
 use Rattle.store.specs.Figures.{sheet_of}
 use Rattle.lookup.specs.Lookup.{rest_by}
 use Rattle.table.proofs.Ways.{least_none, least_more}
-use Rattle.choice.proofs.Choice.{first-none, first_less, first-kept}
+use Rattle.choice.proofs.Choice.{first_none, first_less, first_kept}
 use Rattle.choice.proofs.choose.Statement.{statement}
 use Rattle.choice.proofs.choose.Tie as tie
 
@@ -25,7 +25,7 @@ abbrev ways : tie.Start invariant_loop decreases_loop → ℕ → ℕ
 ways c = via (sheet_of c.args.f.head c.args.store.now) (rest_by (sheet_of c.args.f.head c.args.store.now) c.args.table.now) (state_of c.args.a)
 
 loop-holds : tie.Need-loop-init invariant_loop decreases_loop
-loop-holds c = record { most = omega arith; least-is = sym (least_none _); first-is = sym (first-none _) }
+loop-holds c = record { most = omega arith; least-is = sym (least_none _); first-is = sym (first_none _) }
 
 way-requires : tie.Need-way-requires invariant_loop decreases_loop
 way-requires c κs =
@@ -50,7 +50,7 @@ loop-again c =
       first-is =
           ⊎_elim
           (λ h. omega (arith, first_less w l.j (omega (arith, l.invariant.least-is, v)), l.invariant.least-is, v))
-          (λ h. omega (arith, first-kept w l.j (omega (arith, l.invariant.least-is, v)), l.invariant.first-is))
+          (λ h. omega (arith, first_kept w l.j (omega (arith, l.invariant.least-is, v)), l.invariant.first-is))
           c.if1.branch;
     }
 

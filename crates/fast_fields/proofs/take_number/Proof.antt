@@ -6,7 +6,7 @@ use native.Mathlib.Omega.{arith}
 use lib.ListN.{length, get_or}
 use borrow.Author.Rules.{rules}
 use Rattle.numbers.proofs.Number.{digits_none, digits_more, digits_value}
-use Rattle.fast_fields.proofs.Number.{Passed, NoDigit, take_open, take_none, take-zero, take_low, take_high, take_digits}
+use Rattle.fast_fields.proofs.Number.{Passed, NoDigit, take_open, take_none, take_zero, take_low, take_high, take_digits}
 use Rattle.fast_fields.proofs.take_number.Statement.{statement}
 use Rattle.fast_fields.proofs.take_number.Tie as tie
 
@@ -73,7 +73,7 @@ shared-slice-read-if5 : tie.Need-shared-slice-read-if5 invariant_loop decreases_
 shared-slice-read-if5 c = search rules
 
 returns-2 : tie.Need-returns-2 invariant_loop decreases_loop
-returns-2 c = sym (take-zero _ _ _ _ _ _ _ c.before.before.before.before.before.loop.invariant.digits (search rules) (search rules) (search rules))
+returns-2 c = sym (take_zero _ _ _ _ _ _ _ c.before.before.before.before.before.loop.invariant.digits (search rules) (search rules) (search rules))
 
 add-if6 : tie.Need-overflow-add-if6 invariant_loop decreases_loop
 add-if6 c = search rules
@@ -98,8 +98,8 @@ returns-6 c =
     sym (take_digits _ _ _ _ _ _ _ c.before.before.before.before.before.before.before.loop.invariant.digits (search rules) (search rules) (search rules) (search rules)
     (⊎_elim (λ w. inr w.2.left) (λ w. inl (omega arith)) c.before.before.before.before.if4.branch) (search rules) (search rules))
 
-pub take-number-spec : {M : Type 1} → statement M
-take-number-spec =
+pub take_number_spec : {M : Type 1} → statement M
+take_number_spec =
     tie.close
     (tie.spec
     invariant_loop

@@ -1,7 +1,7 @@
 -- `take_line` takes what the definition takes, by the line's kind.
 use borrow.Author.Rules.{rules}
 use Rattle.line_kinds.proofs.Figures.{few_levels, few_changes, few_works}
-use Rattle.fast_lines.proofs.Take.{takes_level, takes-change, takes_work}
+use Rattle.fast_lines.proofs.Take.{takes_level, takes_change, takes_work}
 use Rattle.fast_lines.proofs.take_line.Statement.{statement}
 use Rattle.fast_lines.proofs.take_line.Tie as tie
 
@@ -33,7 +33,7 @@ same-length-2 : tie.Need-same-length-2
 same-length-2 c = search rules
 
 returns-2 : tie.Need-returns-2
-returns-2 c = takes-change _ _ _ c.before.before.before.before.before.kind2.given.1 c.before.before.take-change.ensures
+returns-2 c = takes_change _ _ _ c.before.before.before.before.before.kind2.given.1 c.before.before.take-change.ensures
 
 same-length-3 : tie.Need-same-length-3
 same-length-3 c = search rules

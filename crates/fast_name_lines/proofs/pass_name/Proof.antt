@@ -4,7 +4,7 @@ use Prim.Native.Nat.{◌-◌}
 use native.Mathlib.Omega.{arith}
 use borrow.Author.Rules.{rules}
 use Rattle.name_lines.specs.Name.{name_max}
-use Rattle.fast_name_lines.proofs.Name.{Passed, letters_none, letters_more, letters-other, letters_name}
+use Rattle.fast_name_lines.proofs.Name.{Passed, letters_none, letters_more, letters_other, letters_name}
 use Rattle.fast_name_lines.proofs.pass_name.Statement.{statement}
 use Rattle.fast_name_lines.proofs.pass_name.Tie as tie
 
@@ -51,7 +51,7 @@ returns c = letters_name _ _ _ c.before.before.before.loop.invariant.letters (se
 
 returns-2 : tie.Need-returns-2 invariant_loop decreases_loop
 returns-2 c =
-    letters-other _ _ _ c.before.before.before.loop.invariant.letters (search rules) (search rules)
+    letters_other _ _ _ c.before.before.before.loop.invariant.letters (search rules) (search rules)
     (⊎_elim (λ w. inl (search rules)) (λ w. inr (⊎_elim (λ x. inl (search rules)) (λ x. inr (search rules)) w)) c.before.before.loop-test.branch)
 
 pub pass_name_spec : {M : Type 1} → statement M

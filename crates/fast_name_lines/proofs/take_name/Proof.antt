@@ -4,8 +4,8 @@ use native.Mathlib.Omega.{arith}
 use borrow.Author.Rules.{rules}
 use borrow.Author.Tests.{not-true, not-false}
 use Rattle.fast_fields.proofs.Line.{Starts, starts_is}
-use Rattle.fast_name_lines.specs.Name.{nameLineMax}
-use Rattle.fast_name_lines.proofs.Name.{name_unstarted, name-line-taken, name_line_left}
+use Rattle.fast_name_lines.specs.Name.{name_line_max}
+use Rattle.fast_name_lines.proofs.Name.{name_unstarted, name_line_taken, name_line_left}
 use Rattle.fast_name_lines.proofs.take_name.Statement.{statement}
 use Rattle.fast_name_lines.proofs.take_name.Tie as tie
 
@@ -15,7 +15,7 @@ starts-with-requires c κs = search rules
 returns : tie.Need-returns
 returns c = name_unstarted _ _ (sym c.before.starts_with.ensures ∙ not-true _ c.if1.true)
 
-started : (c : tie.Else1) → Starts c.before.before.before.args.s.now c.before.before.before.args.from 74 nameLineMax
+started : (c : tie.Else1) → Starts c.before.before.before.args.s.now c.before.before.before.args.from 74 name_line_max
 started c = starts_is _ _ _ _ (sym c.before.starts_with.ensures ∙ not-false _ c.if1.false)
 
 add-pass-name : tie.Need-overflow-add-pass-name
@@ -28,7 +28,7 @@ add-if2 : tie.Need-overflow-add-if2
 add-if2 c = search rules
 
 returns-2 : tie.Need-returns-2
-returns-2 c = c.before.pass-name.ensures ∙ name-line-taken _ _ (started c.before.before) (omega (arith, c.before.pass-name.ensures))
+returns-2 c = c.before.pass-name.ensures ∙ name_line_taken _ _ (started c.before.before) (omega (arith, c.before.pass-name.ensures))
 
 returns-3 : tie.Need-returns-3
 returns-3 c = name_line_left _ _ (started c.before.before) (omega (arith, c.before.pass-name.ensures))

@@ -4,7 +4,7 @@ use mathlib.Core.Path.{ap, sym, ◌∙◌}
 use Prim.Native.Nat.{ℕ}
 use lib.Dec.{eqb}
 use borrow.Author.Rules.{rules}
-use Rattle.fields.proofs.Fields.{opens_empty, opens_other, opens_longer, opens-count}
+use Rattle.fields.proofs.Fields.{opens_empty, opens_other, opens_longer, opens_count}
 use Rattle.fields.proofs.opens_with.Statement.{statement}
 use Rattle.fields.proofs.opens_with.Tie as tie
 
@@ -33,7 +33,7 @@ returns-4 : tie.Need-returns-4
 returns-4 c =
     let a = c.before.before.before.before.args in
     ap (λ (m : ℕ). eqb m a.k) c.before.before.before.before.requires.counted
-    ∙ sym (opens-count _ _ _ _ _ (search rules) (search rules) (search rules) (search rules)
+    ∙ sym (opens_count _ _ _ _ _ (search rules) (search rules) (search rules) (search rules)
     (⊎_elim (λ w. inr (search rules, search rules)) (λ w. inl (search rules)) c.if3.branch))
 
 pub opens_with_spec : {M : Type 1} → statement M

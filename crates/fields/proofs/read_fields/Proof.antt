@@ -8,7 +8,7 @@ use borrow.Author.Rules.{rules}
 use borrow.Author.Tests.{not-true, not-false}
 use Rattle.text.specs.Text.{part}
 use Rattle.fields.specs.Fields.{opens, numbers_from}
-use Rattle.fields.proofs.Fields.{opens_some, fields_shape, fields-numbers}
+use Rattle.fields.proofs.Fields.{opens_some, fields_shape, fields_numbers}
 use Rattle.fields.proofs.read_fields.Statement.{statement}
 use Rattle.fields.proofs.read_fields.Tie as tie
 
@@ -36,7 +36,7 @@ returns-2 : tie.Need-returns-2
 returns-2 c =
     let a = c.before.before.before.before.args in
     let z : a.k - 0 ≡ a.k = omega arith in
-    fields-numbers _ _ _ a.letter a.k a.lo a.hi (search rules) (search rules) _ (opened c.before)
+    fields_numbers _ _ _ a.letter a.k a.lo a.hi (search rules) (search rules) _ (opened c.before)
     (c.read-numbers.ensures.0 ∙ ap (λ (m : ℕ). numbers_from a.lo a.hi m 0 (part (a.from + 2) a.to a.s.now) (replicate 10 0)) z)
 
 pub read_fields_spec : {M : Type 1} → statement M

@@ -7,7 +7,7 @@ use mir.Val.{Fits}
 use Rattle.text.specs.Text.{part}
 use Rattle.numbers.specs.Number.{field_at}
 use Rattle.numbers.specs.declared.Field.TheVariants.{Number}
-use Rattle.fields.proofs.Fields.{Reading, numbers_form, numbers_low, numbers_high, numbers-end, reading_next}
+use Rattle.fields.proofs.Fields.{Reading, numbers_form, numbers_low, numbers_high, numbers_end, reading_next}
 use borrow.Author.Rules.{rules}
 use Rattle.fields.proofs.read_numbers.Statement.{statement}
 use Rattle.fields.proofs.read_numbers.Tie as tie
@@ -32,9 +32,9 @@ loop-holds c =
     }
 
 -- What a number field that was read says.
-number-here : (c : tie.After-f invariant_loop decreases_loop) →
+number_here : (c : tie.After-f invariant_loop decreases_loop) →
     field_at c.before.before.before.before.loop.p (part c.before.before.before.before.loop.p c.before.before.before.before.before.before.args.to c.before.before.before.before.before.before.args.s.now) ≡ Number c.f.given.0.0 c.f.given.0.1.0
-number-here c = sym c.before.before.read_number.ensures ∙ c.f.given.1
+number_here c = sym c.before.before.read_number.ensures ∙ c.f.given.1
 
 read-number-requires : tie.Need-read-number-requires invariant_loop decreases_loop
 read-number-requires c κs = search rules
@@ -68,7 +68,7 @@ add-t26 c = search rules
 returns-2 : tie.Need-returns-2 invariant_loop decreases_loop
 returns-2 c =
     let l = c.before.before.before.before.before.before.loop in
-    (sym (l.invariant.same ∙ numbers_low _ _ _ _ _ _ _ _ (search rules) _ _ (number-here c.before.before) (search rules)), l.invariant.place)
+    (sym (l.invariant.same ∙ numbers_low _ _ _ _ _ _ _ _ (search rules) _ _ (number_here c.before.before) (search rules)), l.invariant.place)
 
 mul-if2 : tie.Need-overflow-mul-if2 invariant_loop decreases_loop
 mul-if2 c = search rules
@@ -85,7 +85,7 @@ add-t31 c = search rules
 returns-3 : tie.Need-returns-3 invariant_loop decreases_loop
 returns-3 c =
     let l = c.before.before.before.before.before.before.before.loop in
-    (sym (l.invariant.same ∙ numbers_high _ _ _ _ _ _ _ _ (search rules) _ _ (number-here c.before.before.before) (search rules) (search rules)), l.invariant.place)
+    (sym (l.invariant.same ∙ numbers_high _ _ _ _ _ _ _ _ (search rules) _ _ (number_here c.before.before.before) (search rules) (search rules)), l.invariant.place)
 
 cast-values : tie.Need-overflow-cast-values invariant_loop decreases_loop
 cast-values c =
@@ -107,10 +107,10 @@ loop-less c = search rules
 loop-again : tie.Need-loop-preserved invariant_loop decreases_loop
 loop-again c =
     let b = c.before.before.before.before.before.before in
-    reading_next b.before.loop.invariant b.loop-test.true _ _ (number-here c.before.before.before) c.before.if1.false c.if2.false
+    reading_next b.before.loop.invariant b.loop-test.true _ _ (number_here c.before.before.before) c.before.if1.false c.if2.false
 
 returns-4 : tie.Need-returns-4 invariant_loop decreases_loop
-returns-4 c = (sym (c.before.loop.invariant.same ∙ numbers-end _ _ _ _ _ _ (search rules)), c.before.loop.invariant.place)
+returns-4 c = (sym (c.before.loop.invariant.same ∙ numbers_end _ _ _ _ _ _ (search rules)), c.before.loop.invariant.place)
 
 pub read_numbers_spec : {M : Type 1} → statement M
 read_numbers_spec =

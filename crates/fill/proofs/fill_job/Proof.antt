@@ -4,7 +4,7 @@ use native.Mathlib.Omega.{arith}
 use Rattle.store.specs.Figures.{sheet_of}
 use Rattle.fill.proofs.Filling.{filled_holds}
 use Rattle.table.proofs.Cells.{cells_small}
-use Rattle.table.proofs.Places.{base-start, base_mono, cells_by, start_is, row_small}
+use Rattle.table.proofs.Places.{base_start, base_mono, cells_by, start_is, row_small}
 use Rattle.fill.proofs.Jobs.{moving_by, room_by, lows_by, filled_by}
 use borrow.Author.Rules.{rules}
 use Rattle.fill.proofs.fill_job.Statement.{statement}
@@ -20,7 +20,7 @@ expand-job-requires : tie.Need-expand-job-requires
 expand-job-requires c κs =
     let a = c.before.before.before.before.before.before.before.before in
     let s = sheet_of a.args.f.head a.args.store.now in
-    record { framed = a.pre.framed; room = a.pre.room; job = a.pre.job; next = filled_holds _ (omega (arith, base-start s (suc a.args.i))) a.pre.next }
+    record { framed = a.pre.framed; room = a.pre.room; job = a.pre.job; next = filled_holds _ (omega (arith, base_start s (suc a.args.i))) a.pre.next }
 
 find-moves-requires : tie.Need-find-moves-requires
 find-moves-requires c κs = let a = c.before.before.before.before.before.before.before.before.before.before.before.before.before.before.pre in record { framed = a.framed; job = omega (arith, a.job); room = a.moves }
@@ -82,8 +82,8 @@ returns c =
       part = r.scratch;
     }
 
-pub fill-job-spec : {M : Type 1} → statement M
-fill-job-spec =
+pub fill_job_spec : {M : Type 1} → statement M
+fill_job_spec =
     tie.close
     (tie.spec
     cast-levels

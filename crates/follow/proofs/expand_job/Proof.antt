@@ -4,7 +4,7 @@ use native.Mathlib.Omega.{arith}
 use Rattle.store.specs.Figures.{sheet_of}
 use Rattle.table.specs.Table.{base}
 use Rattle.follow.specs.Follow.{Kept, Ahead}
-use Rattle.table.proofs.Places.{base_level, base-within}
+use Rattle.table.proofs.Places.{base_level, base_within}
 use Rattle.follow.proofs.Keeping.{kept_none, kept_both, kept_wide, holds_kept, ahead_none, ahead_more, ahead_all}
 use Rattle.follow.proofs.expand_job.Statement.{statement}
 use Rattle.follow.proofs.expand_job.Tie as tie
@@ -46,7 +46,7 @@ loop-again c =
     record {
       most = omega (arith, h);
       ahead = ahead_more s l.invariant.ahead w;
-      kept = kept_both l.invariant.kept (kept_wide (omega (arith, base_level s a.args.i l.j)) (base-within s a.args.i l.j (omega (arith, h, a.requires.framed.axes.levels))) w.kept);
+      kept = kept_both l.invariant.kept (kept_wide (omega (arith, base_level s a.args.i l.j)) (base_within s a.args.i l.j (omega (arith, h, a.requires.framed.axes.levels))) w.kept);
     }
 
 same_length : tie.Need-same-length invariant_loop decreases_loop
@@ -57,8 +57,8 @@ returns c =
     let l = c.before.loop in
     record { ahead = ahead_all l.invariant.ahead (omega (arith, c.loop-test.false, l.invariant.most, c.before.before.before.requires.framed.axes.levels)); kept = l.invariant.kept }
 
-pub expand-job-spec : {M : Type 1} → statement M
-expand-job-spec =
+pub expand_job_spec : {M : Type 1} → statement M
+expand_job_spec =
     tie.close
     (tie.spec
     invariant_loop

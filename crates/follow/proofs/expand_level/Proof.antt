@@ -5,8 +5,8 @@ use borrow.Author.Rules.{rules}
 use Rattle.frame.specs.Table.{need, words_max}
 use Rattle.store.specs.Figures.{sheet_of}
 use Rattle.table.specs.Table.{cells}
-use Rattle.table.proofs.Places.{rows_some, columns_some, cells_by, job_by, one_level, last_row, at_is, at_need, at_small, row_small, next_is, next-need, job_small}
-use Rattle.follow.proofs.Laying.{map_rising, gathered_laid, finished-laid}
+use Rattle.table.proofs.Places.{rows_some, columns_some, cells_by, job_by, one_level, last_row, at_is, at_need, at_small, row_small, next_is, next_need, job_small}
+use Rattle.follow.proofs.Laying.{map_rising, gathered_laid, finished_laid}
 use Rattle.follow.proofs.expand_level.Statement.{statement}
 use Rattle.follow.proofs.expand_level.Tie as tie
 
@@ -29,7 +29,7 @@ next_room c =
     let a = c.before.before.before.before.before.before.before.before.before in
     let g = a.requires.framed.axes in
     let n = next_is g a.args.i a.args.j a.requires.job a.requires.level in
-    let k = next-need g a.args.i a.args.j a.requires.job a.requires.level (omega (arith, c.before.if1.true, a.requires.job, g.jobs)) in
+    let k = next_need g a.args.i a.args.j a.requires.job a.requires.level (omega (arith, c.before.if1.true, a.requires.job, g.jobs)) in
     (job_small g a.args.i a.args.j a.requires.job a.requires.level, omega (arith, n, k), g.allowed)
 
 cast-levels : tie.Need-overflow-cast-levels
@@ -122,7 +122,7 @@ returns-2 : tie.Need-returns-2
 returns-2 c =
     let a = c.before.before.before.before.before.before.before.before.before.before.before.before in
     let q = a.requires.framed.axes in
-    finished-laid q a.args.i a.args.j a.requires.job a.requires.level c.before.before.before.before.before.before.before.before.map-cells.ensures (omega (arith, c.before.before.before.before.if1.false, q.jobs)) c.before.before.finish-rows.ensures
+    finished_laid q a.args.i a.args.j a.requires.job a.requires.level c.before.before.before.before.before.before.before.before.map-cells.ensures (omega (arith, c.before.before.before.before.if1.false, q.jobs)) c.before.before.finish-rows.ensures
 
 pub expand_level_spec : {M : Type 1} → statement M
 expand_level_spec =

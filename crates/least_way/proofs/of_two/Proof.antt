@@ -1,7 +1,7 @@
 -- The lesser of the times by two places is the least by both: one place, and the one behind it.
 use Prim.Native.Nat.{◌+◌}
 use borrow.Author.Rules.{rules}
-use Rattle.least_way.proofs.Places.{one_place, places-join}
+use Rattle.least_way.proofs.Places.{one_place, places_join}
 use Rattle.least_way.proofs.of_two.Statement.{statement}
 use Rattle.least_way.proofs.of_two.Tie as tie
 
@@ -20,7 +20,7 @@ lesser-requires c κs = search rules
 returns : tie.Need-returns
 returns c =
     let a = c.before.before.before.before.before.before.args in
-    places-join _ _ _ _ _ a.k 1 1 _ (one_place _ _ _ _ _ a.k _ c.before.before.time-by.ensures.0 c.before.before.time-by.ensures.1) (one_place _ _ _ _ _ (a.k + 1) _ c.before.time-by2.ensures.0 c.before.time-by2.ensures.1) c.lesser.ensures
+    places_join _ _ _ _ _ a.k 1 1 _ (one_place _ _ _ _ _ a.k _ c.before.before.time-by.ensures.0 c.before.before.time-by.ensures.1) (one_place _ _ _ _ _ (a.k + 1) _ c.before.time-by2.ensures.0 c.before.time-by2.ensures.1) c.lesser.ensures
 
 pub of_two_spec : {M : Type 1} → statement M
 of_two_spec = tie.close (tie.spec time-by-requires add-time-by time-by-requires-2 lesser-requires returns)

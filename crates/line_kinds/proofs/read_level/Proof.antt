@@ -1,6 +1,6 @@
 -- `read_level` gives what the definition says: the power by `read_fields`, then its steady-state temperature.
 use borrow.Author.Rules.{rules}
-use Rattle.line_kinds.proofs.Figures.{level_other, level_hot, level-sound}
+use Rattle.line_kinds.proofs.Figures.{level_other, level_hot, level_sound}
 use Rattle.line_kinds.proofs.read_level.Statement.{statement}
 use Rattle.line_kinds.proofs.read_level.Tie as tie
 
@@ -23,7 +23,7 @@ returns-2 : tie.Need-returns-2
 returns-2 c = level_hot _ _ _ c.before.before.before.before.before.read-fields.ensures c.before.before.before.enum_told.given.1 (rw c.before.steady-state.ensures at c.if1.true)
 
 returns-3 : tie.Need-returns-3
-returns-3 c = level-sound _ _ _ c.before.before.before.before.before.read-fields.ensures c.before.before.before.enum_told.given.1 (rw c.before.steady-state.ensures at c.if1.false)
+returns-3 c = level_sound _ _ _ c.before.before.before.before.before.read-fields.ensures c.before.before.before.enum_told.given.1 (rw c.before.steady-state.ensures at c.if1.false)
 
 pub read_level_spec : {M : Type 1} → statement M
 read_level_spec =

@@ -7,7 +7,7 @@ use borrow.Author.Rules.{rules}
 use Rattle.text.proofs.Scanned.{line_tabs, line_from}
 use Rattle.line_kinds.specs.Figures.{fields_for}
 use Rattle.line_kinds.proofs.Figures.{line_taken, places_most}
-use Rattle.lines.proofs.Lines.{Going, going_all, going_missing, going-fault, going_on}
+use Rattle.lines.proofs.Lines.{Going, going_all, going_missing, going_fault, going_on}
 use Rattle.lines.proofs.Take.{going_took}
 use Rattle.lines.proofs.read_block.Statement.{statement}
 use Rattle.lines.proofs.read_block.Tie as tie
@@ -53,7 +53,7 @@ same-length-2 : tie.Need-same-length-2 invariant_loop decreases_loop
 same-length-2 c = let h = (so_far c.before.before.before.before.before).long in search rules
 
 returns-2 : tie.Need-returns-2 invariant_loop decreases_loop
-returns-2 c = going-fault (so_far c.before.before.before.before.before) _ (search rules) _ c.before.before.before.scan-line.ensures (search rules) _ c.before.read-line.ensures c.match.keys2
+returns-2 c = going_fault (so_far c.before.before.before.before.before) _ (search rules) _ c.before.before.before.scan-line.ensures (search rules) _ c.before.read-line.ensures c.match.keys2
 
 add-put-values : tie.Need-overflow-add-put-values invariant_loop decreases_loop
 add-put-values c = omega (arith, places_most c.before.before.before.before.before.before.before.before.before.before.before.before.before.before.before.args.kind, c.before.before.before.before.before.before.before.before.before.before.before.before.before.before.before.requires)

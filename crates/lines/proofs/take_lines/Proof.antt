@@ -3,8 +3,8 @@ use Prim.Native.Nat.{◌-◌}
 use native.Mathlib.Omega.{arith}
 use borrow.Author.Rules.{rules}
 use Rattle.line_kinds.proofs.Figures.{places_most}
-use Rattle.fast_lines.proofs.Take.{takes-next}
-use Rattle.lines.proofs.Take.{TakingLines, lines_none, lines_on, lines-stop, lines-all}
+use Rattle.fast_lines.proofs.Take.{takes_next}
+use Rattle.lines.proofs.Take.{TakingLines, lines_none, lines_on, lines_stop, lines_all}
 use Rattle.lines.proofs.take_lines.Statement.{statement}
 use Rattle.lines.proofs.take_lines.Tie as tie
 
@@ -36,19 +36,19 @@ loop-less : tie.Need-loop-smaller invariant_loop decreases_loop
 loop-less c = search rules
 
 loop-again : tie.Need-loop-preserved invariant_loop decreases_loop
-loop-again c = lines_on c.before.before.before.before.before.before.before.before.loop.invariant (search rules) _ (takes-next c.before.t.given.1 c.before.before.before.before.before.take-line.ensures)
+loop-again c = lines_on c.before.before.before.before.before.before.before.before.loop.invariant (search rules) _ (takes_next c.before.t.given.1 c.before.before.before.before.before.take-line.ensures)
 
 same_length : tie.Need-same-length invariant_loop decreases_loop
 same_length c = search rules
 
 returns : tie.Need-returns invariant_loop decreases_loop
-returns c = lines-all c.before.loop.invariant (search rules)
+returns c = lines_all c.before.loop.invariant (search rules)
 
 same-length-2 : tie.Need-same-length-2 invariant_loop decreases_loop
 same-length-2 c = search rules
 
 returns-2 : tie.Need-returns-2 invariant_loop decreases_loop
-returns-2 c = lines-stop c.before.before.before.before.before.before.before.loop.invariant (search rules) (takes-next c.enum_told.given.1 c.before.before.before.before.take-line.ensures)
+returns-2 c = lines_stop c.before.before.before.before.before.before.before.loop.invariant (search rules) (takes_next c.enum_told.given.1 c.before.before.before.before.take-line.ensures)
 
 pub take_lines_spec : {M : Type 1} → statement M
 take_lines_spec =

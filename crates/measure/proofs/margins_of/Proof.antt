@@ -14,7 +14,7 @@ use Rattle.step.specs.declared.Steady.{Steady}
 use Rattle.step.proofs.Store.{steady_in, read_stored}
 use Rattle.step.proofs.Levels.{begun_start}
 use Rattle.measure.proofs.Levels.{below_each}
-use Rattle.measure.proofs.Replies.{Under, measured_under, margins-are}
+use Rattle.measure.proofs.Replies.{Under, measured_under, margins_hold}
 use Rattle.measure.proofs.margins_of.Statement.{statement}
 use Rattle.measure.proofs.margins_of.Tie as tie
 
@@ -77,7 +77,7 @@ margin-requires-3 c κs = omega (arith, under c.before.before, c.before.before.b
 returns : tie.Need-returns
 unfolding sheet_of
 returns c =
-    margins-are _ _ _ (ran c.before.before.before) _ _ _
+    margins_hold _ _ _ (ran c.before.before.before) _ _ _
     (to_z-of_z {w = w64} {z = c.before.before.margin.result} (record { sfits = c.before.before.margin.ok }) ∙ c.before.before.margin.ensures)
     (to_z-of_z {w = w64} {z = c.before.margin2.result} (record { sfits = c.before.margin2.ok }) ∙ c.before.margin2.ensures)
     (to_z-of_z {w = w64} {z = c.margin3.result} (record { sfits = c.margin3.ok }) ∙ c.margin3.ensures)

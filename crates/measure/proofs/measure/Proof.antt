@@ -53,8 +53,8 @@ returns-4 c =
     let b = c.before.before.before.before.before.before.before in
     means (c.margins-of.ensures ∙ measure_given _ _ _ _ b.before.before.read.ensures b.enum_told.given.1 (search rules) _ c.before.before.before.first_above.ensures (search rules))
 
-pub measure-spec : {M : Type 1} → statement M
-measure-spec =
+pub measure_spec : {M : Type 1} → statement M
+measure_spec =
     tie.close
     (tie.spec
     read-requires

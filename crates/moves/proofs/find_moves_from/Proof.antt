@@ -8,7 +8,7 @@ use borrow.Author.Rules.{rules}
 use Rattle.store.specs.Store.{changes_max}
 use Rattle.store.specs.Figures.{sheet_of}
 use Rattle.moves.specs.Moves.{Moves}
-use Rattle.moves.proofs.Figures.{number_small, moves_more, move-small}
+use Rattle.moves.proofs.Figures.{number_small, moves_more, move_small}
 use Rattle.moves.proofs.find_moves_from.Statement.{statement}
 use Rattle.moves.proofs.find_moves_from.Tie as tie
 
@@ -48,7 +48,7 @@ cast-u : tie.Need-overflow-cast-u invariant_loop decreases_loop
 cast-u c = omega (arith, small c.before)
 
 cast-shifts : tie.Need-overflow-cast-shifts invariant_loop decreases_loop
-cast-shifts c = let a = c.before.before.before.before.before.before.before in omega (arith, move-small a.requires.framed.axes _ _ _ _ c.before.move-of.ensures)
+cast-shifts c = let a = c.before.before.before.before.before.before.before in omega (arith, move_small a.requires.framed.axes _ _ _ _ c.before.move-of.ensures)
 
 mul-shifts : tie.Need-overflow-mul-shifts invariant_loop decreases_loop
 mul-shifts c = omega (arith, small c.before.before)
@@ -57,7 +57,7 @@ slice-write-shifts : tie.Need-slice-write-shifts invariant_loop decreases_loop
 slice-write-shifts c = omega (arith, small c.before.before, c.before.before.before.loop.invariant.shifts_long, c.before.before.before.before.before.before.before.requires.room.shifts_long)
 
 cast-reaches : tie.Need-overflow-cast-reaches invariant_loop decreases_loop
-cast-reaches c = let a = c.before.before.before.before.before.before.before.before in omega (arith, move-small a.requires.framed.axes _ _ _ _ c.before.before.move-of.ensures)
+cast-reaches c = let a = c.before.before.before.before.before.before.before.before in omega (arith, move_small a.requires.framed.axes _ _ _ _ c.before.before.move-of.ensures)
 
 mul-reaches : tie.Need-overflow-mul-reaches invariant_loop decreases_loop
 mul-reaches c = omega (arith, small c.before.before.before)

@@ -5,7 +5,7 @@ use native.Mathlib.Nat.{le-mul_of_pos_right}
 use native.Mathlib.Omega.{arith}
 use Rattle.table.specs.Table.{raised_energy_max}
 use borrow.Author.Rules.{rules}
-use Rattle.moves.proofs.Rows.{multiples, rows_all, rows-less}
+use Rattle.moves.proofs.Rows.{multiples, rows_all, rows_less}
 use Rattle.moves.proofs.lawful_rows.Statement.{statement}
 use Rattle.moves.proofs.lawful_rows.Tie as tie
 
@@ -49,7 +49,7 @@ returns : tie.Need-returns
 returns c = let a = c.before.before.before.before.before in rows_all _ _ _ _ _ a.requires.step a.requires.enough (omega (arith, a.requires.rows)) a.requires.raised (omega (arith, c.if1.true))
 
 returns-2 : tie.Need-returns-2
-returns-2 c = let a = c.before.before.before.before.before in rows-less _ _ _ _ _ a.requires.step a.requires.enough (omega (arith, a.requires.rows)) a.requires.raised (omega (arith, c.if1.false))
+returns-2 c = let a = c.before.before.before.before.before in rows_less _ _ _ _ _ a.requires.step a.requires.enough (omega (arith, a.requires.rows)) a.requires.raised (omega (arith, c.if1.false))
 
 pub lawful_rows_spec : {M : Type 1} → statement M
 lawful_rows_spec =

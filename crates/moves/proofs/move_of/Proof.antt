@@ -12,7 +12,7 @@ use Rattle.frame.specs.Table.{words_max}
 use Rattle.moves.specs.declared.Move.{Move}
 use Rattle.moves.specs.Moves.{moved, move_of}
 use Rattle.moves.proofs.Reach.{moved_time, moved_energy}
-use Rattle.moves.proofs.Figures.{move_none, move_some, move-small, counts}
+use Rattle.moves.proofs.Figures.{move_none, move_some, move_small, counts}
 use Rattle.moves.proofs.move_of.Statement.{statement}
 use Rattle.moves.proofs.move_of.Tie as tie
 
@@ -79,17 +79,17 @@ move_is c =
     let n = c.before.before.before.before.before.before.before in
     move_some c.before.before.before.before.before.before.before.before.before.pre.framed.axes _ _ _ _ _ (energy_is n) (time_is n) c.before.before.before.if1.left _ _ c.before.ceil-div.ensures c.lawful-rows.ensures
 
-small-move : (c : tie.After-lawful-rows) → let n = c.before.before.before.before.before.before.before.before.before.args.f.temperature_cells in (c.before.ceil-div.result * n ≤ words_max) × (c.lawful-rows.result * n ≤ words_max)
-small-move c = let a = c.before.before.before.before.before.before.before.before.before in move-small a.pre.framed.axes a.args.i a.args.p a.args.j _ (move_is c)
+small_move : (c : tie.After-lawful-rows) → let n = c.before.before.before.before.before.before.before.before.before.args.f.temperature_cells in (c.before.ceil-div.result * n ≤ words_max) × (c.lawful-rows.result * n ≤ words_max)
+small_move c = let a = c.before.before.before.before.before.before.before.before.before in move_small a.pre.framed.axes a.args.i a.args.p a.args.j _ (move_is c)
 
 mul-shift : tie.Need-mul-shift
-mul-shift c = omega (arith, small-move c.before)
+mul-shift c = omega (arith, small_move c.before)
 
 cast-reach : tie.Need-cast-reach
 cast-reach c = search rules
 
 mul-reach : tie.Need-mul-reach
-mul-reach c = omega (arith, small-move c.before.before)
+mul-reach c = omega (arith, small_move c.before.before)
 
 returns-2 : tie.Need-returns-2
 returns-2 c = move_is c.before.before

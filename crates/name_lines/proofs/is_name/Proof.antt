@@ -3,7 +3,7 @@ use mathlib.Core.Path.{sym, ◌∙◌}
 use Prim.Native.Nat.{◌-◌}
 use borrow.Author.Rules.{rules}
 use Rattle.text.proofs.Text.{part_low, part_high, part_on, part_end}
-use Rattle.name_lines.proofs.Name.{Naming, name_empty, name_long, name-bytes}
+use Rattle.name_lines.proofs.Name.{Naming, name_empty, name_long, name_bytes}
 use Rattle.name_lines.proofs.is_name.Statement.{statement}
 use Rattle.name_lines.proofs.is_name.Tie as tie
 
@@ -23,7 +23,7 @@ returns-2 : tie.Need-returns-2 invariant_loop decreases_loop
 returns-2 c = sym (name_long _ _ _ (search rules) (search rules))
 
 loop-holds : tie.Need-loop-init invariant_loop decreases_loop
-loop-holds c = record { start = search rules; within = search rules; same = name-bytes _ _ _ (search rules) (search rules) (search rules) }
+loop-holds c = record { start = search rules; within = search rules; same = name_bytes _ _ _ (search rules) (search rules) (search rules) }
 
 shared-slice-read-b : tie.Need-shared-slice-read-b invariant_loop decreases_loop
 shared-slice-read-b c = search rules

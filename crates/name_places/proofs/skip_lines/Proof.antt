@@ -5,7 +5,7 @@ use lib.ListN.{drop}
 use borrow.Author.Rules.{rules}
 use Rattle.text.specs.Text.{until, count}
 use Rattle.text.specs.Line.{LineAt}
-use Rattle.name_places.proofs.Place.{line_found, Skipped, skipped_none, skipped_all, skipped_on, skipped-end}
+use Rattle.name_places.proofs.Place.{line_found, Skipped, skipped_none, skipped_all, skipped_on, skipped_end}
 use Rattle.name_places.proofs.skip_lines.Statement.{statement}
 use Rattle.name_places.proofs.skip_lines.Tie as tie
 
@@ -28,7 +28,7 @@ line c = line_found c.find.ensures.0 c.find.ensures.1
 returns : tie.Need-returns invariant_loop decreases_loop
 returns c =
     let z = line c.before in
-    record { within = z.within; rest = skipped-end c.before.before.before.loop.invariant _ z (search rules) (search rules) }
+    record { within = z.within; rest = skipped_end c.before.before.before.loop.invariant _ z (search rules) (search rules) }
 
 add-p : tie.Need-overflow-add-p invariant_loop decreases_loop
 add-p c = search rules

@@ -4,7 +4,7 @@ use native.Mathlib.Omega.{arith}
 use Rattle.sheet.proofs.Ranges.{reading_ranges}
 use Rattle.need.specs.Axes.{Lawful}
 use Rattle.need.proofs.Axes.{need_any, need_below}
-use Rattle.need.proofs.Need.{words_refused, words-counted}
+use Rattle.need.proofs.Need.{words_refused, words_counted}
 use borrow.Author.Rules.{rules}
 use Rattle.need.proofs.count_words.Statement.{statement}
 use Rattle.need.proofs.count_words.Tie as tie
@@ -36,7 +36,7 @@ returns-2 c =
     let w = lawful c.before.before in
     let h = c.before.before.before.before.read.result.head in
     let k = rw c.before.frame-of.ensures at c.need-of.ensures in
-    (words-counted _ _ c.before.before.before.before.read.ensures c.before.before.enum_told.given.1 _ (k ∙ need_any h _), rw k (need_below h w.store w.ranges))
+    (words_counted _ _ c.before.before.before.before.read.ensures c.before.before.enum_told.given.1 _ (k ∙ need_any h _), rw k (need_below h w.store w.ranges))
 
 pub count_words_spec : {M : Type 1} → statement M
 count_words_spec =

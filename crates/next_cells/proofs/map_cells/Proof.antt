@@ -7,7 +7,7 @@ use native.Mathlib.Omega.{arith}
 use Rattle.thermal.specs.Thermal.{raised_temperature_max}
 use Rattle.frame.specs.Run.{State, step, fresh}
 use Rattle.step.proofs.Store.{rests}
-use Rattle.table.proofs.Cells.{cell-temperature, width_small}
+use Rattle.table.proofs.Cells.{cell_temperature, width_small}
 use Rattle.spans.specs.Spans.{Spans}
 use Rattle.spans.proofs.Stepping.{spans_none, spans_more, spans_all}
 use Rattle.store.specs.Figures.{sheet_of}
@@ -42,7 +42,7 @@ warm_small : (c : tie.In-loop invariant_loop decreases_loop) → c.before.loop.b
 warm_small c =
     let g = c.before.before.before.before.before.requires.framed.axes in
     let b = c.before.loop.b in
-    omega (arith, ap (λ (h : ℕ). b * h) g.temperature_step, cell-temperature _ g.ranges b (omega (arith, c.loop-test.true, g.temperature_count)))
+    omega (arith, ap (λ (h : ℕ). b * h) g.temperature_step, cell_temperature _ g.ranges b (omega (arith, c.loop-test.true, g.temperature_count)))
 
 mul-fresh : tie.Need-overflow-mul-fresh invariant_loop decreases_loop
 mul-fresh c = omega (arith, warm_small c)

@@ -82,8 +82,8 @@ returns-6 c =
     sym (field_number _ _ _ _ _ z (ended c.before.before) (search rules)
     (⊎_elim (λ w. inr w.2.left) (λ w. inl (omega arith)) c.if6.branch))
 
-pub read-number-spec : {M : Type 1} → statement M
-read-number-spec =
+pub read_number_spec : {M : Type 1} → statement M
+read_number_spec =
     tie.close
     (tie.spec
     invariant_loop

@@ -59,8 +59,8 @@ returns-2 c =
       within = omega (arith, simp (length-take, length-drop) at c.count.ensures.0.0);
     }
 
-pub read-more-spec : {M : Type 1} → statement M
-read-more-spec =
+pub read_more_spec : {M : Type 1} → statement M
+read_more_spec =
     tie.close
     (tie.spec
     sub_read

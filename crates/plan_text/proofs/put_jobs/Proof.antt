@@ -10,7 +10,7 @@ use Rattle.run.specs.Run.{state_of}
 use Rattle.step.specs.Store.{Stored}
 use Rattle.step.specs.declared.Steady.{Steady}
 use Rattle.step.proofs.Store.{steady_in, read_stored}
-use Rattle.plan_text.proofs.Writing.{Writing, ranges, writing_start, writing_rests, writing_ended, writing-next, writing_end}
+use Rattle.plan_text.proofs.Writing.{Writing, ranges, writing_start, writing_rests, writing_ended, writing_next, writing_end}
 use borrow.Author.Rules.{rules}
 use Rattle.plan_text.proofs.put_jobs.Statement.{statement}
 use Rattle.plan_text.proofs.put_jobs.Tie as tie
@@ -92,7 +92,7 @@ loop-less c = omega (arith, c.before.before.before.before.before.before.before.b
 loop-again : tie.Need-loop-preserved invariant_loop decreases_loop
 loop-again c =
     let v = c.before.before.before.before.put-job.ensures in
-    writing-next c.before.before.before.before.before.before.before.before.before.before.before.before.before.before.before.before.before.before.before.before.before.requires.handed c.before.before.before.before.before.before.before.before.before.before.before.loop.invariant c.before.before.before.before.before.before.before.before.before.if1.true _ (stepped c.before.before.before.before.before.before) _ _ _ _ v.0 v.1 c.before.job-lines.ensures c.skip-lines2.ensures.within c.skip-lines2.ensures.rest
+    writing_next c.before.before.before.before.before.before.before.before.before.before.before.before.before.before.before.before.before.before.before.before.before.requires.handed c.before.before.before.before.before.before.before.before.before.before.before.loop.invariant c.before.before.before.before.before.before.before.before.before.if1.true _ (stepped c.before.before.before.before.before.before) _ _ _ _ v.0 v.1 c.before.job-lines.ensures c.skip-lines2.ensures.within c.skip-lines2.ensures.rest
 
 same_length : tie.Need-same-length invariant_loop decreases_loop
 same_length c = c.before.before.loop.invariant.long

@@ -11,7 +11,7 @@ use Rattle.run.specs.Run.{state_of}
 use Rattle.need.specs.Axes.{Lawful}
 use Rattle.need.proofs.Axes.{axes, need_any}
 use Rattle.checks.specs.Checks.{lack_of, fault_of}
-use Rattle.checks.proofs.Checks.{lack_none, fault-passed}
+use Rattle.checks.proofs.Checks.{lack_none, fault_passed}
 use Rattle.demands.proofs.Order.{answers_sheet, answers_lack, answers_fault, answers_found}
 use borrow.Author.Rules.{rules}
 use Rattle.planner.proofs.plan_left.Statement.{statement}
@@ -82,7 +82,7 @@ unfolding sheet_of
 solve-requires c κs = let a = c.before.before.before.before.before.before.before.before.before.before.before.before.before.before in
     let ok = a.requires.ranges c.before.before.before.before.before.before.before.before.before.before.enum_told.given.1 in
     let m = lack_none _ _ _ _ (sym (lacking c.before.before.before.before.before) ∙ omega (arith, c.before.before.before.before.if1.false)) in
-    let t = fault-passed (sheet a) (state_of a.args.start) (sym (c.before.before.before.fault-of.ensures a.args.store.now) ∙ omega (arith, c.before.before.if2.false)) in
+    let t = fault_passed (sheet a) (state_of a.args.start) (sym (c.before.before.before.fault-of.ensures a.args.store.now) ∙ omega (arith, c.before.before.if2.false)) in
     rw c.before.before.before.before.before.before.before.before.frame-of.ensures (record {
       axes = axes _ _ ok m.0;
       ready = record {

@@ -76,5 +76,5 @@ returns c =
     let l = c.before.loop.invariant in
     record { words = rw (le_antisymm l.most c.loop-test.false) at l.words; scratch = record { long = l.part_long } }
 
-pub relax-words-spec : {M : Type 1} → statement M
-relax-words-spec = tie.close (tie.spec invariant_loop decreases_loop loop-holds sub-fewest fewest-requires relax-part-requires copy-part-requires add-x loop-less loop-again same_length same-length-2 returns)
+pub relax_words_spec : {M : Type 1} → statement M
+relax_words_spec = tie.close (tie.spec invariant_loop decreases_loop loop-holds sub-fewest fewest-requires relax-part-requires copy-part-requires add-x loop-less loop-again same_length same-length-2 returns)

@@ -2,7 +2,7 @@
 use mathlib.Core.Path.{ap, ◌∙◌}
 use Rattle.text.proofs.Scanned.{line_tabs}
 use Rattle.sheet.specs.Reading.{refused_read}
-use Rattle.sheet.proofs.Sheet.{refused_clear, sheet-long, sheet_missing, sheet_fault, sheet_on}
+use Rattle.sheet.proofs.Sheet.{refused_clear, sheet_long, sheet_missing, sheet_fault, sheet_on}
 use borrow.Author.Rules.{rules}
 use Rattle.sheet.proofs.read_sheet.Statement.{statement}
 use Rattle.sheet.proofs.read_sheet.Tie as tie
@@ -11,7 +11,7 @@ refuse-requires : tie.Need-refuse-requires
 refuse-requires c κs = search rules
 
 returns : tie.Need-returns
-returns c = refused_clear _ _ _ c.refuse.ensures c.before.before.before.requires ∙ sheet-long _ (search rules)
+returns c = refused_clear _ _ _ c.refuse.ensures c.before.before.before.requires ∙ sheet_long _ (search rules)
 
 scan-line-requires : tie.Need-scan-line-requires
 scan-line-requires c κs = search rules

@@ -7,7 +7,7 @@ use Rattle.frame.specs.Plan.{least}
 use Rattle.frame.proofs.Words.{least_bounded}
 use Rattle.store.specs.Figures.{sheet_of}
 use Rattle.run.specs.Run.{state_of}
-use Rattle.table.proofs.Cells.{filled-words}
+use Rattle.table.proofs.Cells.{filled_words}
 use Rattle.solve.proofs.Finding.{start_looks, start_rest, finds_spent, finds_none, finds_plan, starts}
 use borrow.Author.Rules.{rules}
 use Rattle.solve.proofs.find_plan.Statement.{statement}
@@ -69,7 +69,7 @@ walk-requires c κs =
     record {
       framed = a.requires.framed;
       room = omega (arith, w.table, c.before.before.before.before.before.before.before.before.before.before.before.before.fill.auto.1.1.1.0);
-      words = λ i. rw c.before.before.before.before.before.before.before.before.before.before.before.before.fill.ensures (filled-words (sheet a) a.args.table.now i w.table);
+      words = λ i. rw c.before.before.before.before.before.before.before.before.before.before.before.before.fill.ensures (filled_words (sheet a) a.args.table.now i w.table);
       starts = starts _ a.requires.framed.axes.ranges w.readable (omega (arith, c.before.before.before.before.before.before.before.if1.false)) (looked c.before.before.before.before.before) (omega (arith, c.before.before.if2.false));
       long = w.part;
     }

@@ -2,7 +2,7 @@
 use mathlib.Core.Path.{refl, sym, ◌∙◌}
 use Prim.Native.Nat.{◌-◌}
 use borrow.Author.Rules.{rules}
-use Rattle.text.proofs.Found.{Finding, found_end, found_here, found-on}
+use Rattle.text.proofs.Found.{Finding, found_end, found_here, found_on}
 use Rattle.text.proofs.find_near.Statement.{statement}
 use Rattle.text.proofs.find_near.Tie as tie
 
@@ -32,7 +32,7 @@ loop-again c =
     record {
       start = search rules;
       within = search rules;
-      same = c.before.before.before.loop.invariant.same ∙ found-on _ _ _ _ (search rules) (search rules) (search rules);
+      same = c.before.before.before.loop.invariant.same ∙ found_on _ _ _ _ (search rules) (search rules) (search rules);
     }
 
 returns_2 : tie.Need-returns-2 invariant_loop decreases_loop

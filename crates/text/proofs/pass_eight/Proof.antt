@@ -4,7 +4,7 @@ use Prim.Native.Nat.{ℕ, ◌+◌, ◌-◌, ◌≤◌}
 use native.Mathlib.Omega.{arith}
 use borrow.Author.Rules.{rules}
 use Rattle.text.specs.Text.{before, part}
-use Rattle.text.proofs.Found.{Passing, found-on}
+use Rattle.text.proofs.Found.{Passing, found_on}
 use Rattle.text.proofs.pass_eight.Statement.{statement}
 use Rattle.text.proofs.pass_eight.Tie as tie
 
@@ -40,7 +40,7 @@ loop-again c =
     let a = c.before.before.before.before.args in
     let l = c.before.before.before.loop in
     let z : a.from + l.k + 1 ≡ a.from + (l.k + 1) = omega arith in
-    record { few = search rules; same = rw z at (l.invariant.same ∙ found-on _ _ _ _ (search rules) (search rules) (search rules)) }
+    record { few = search rules; same = rw z at (l.invariant.same ∙ found_on _ _ _ _ (search rules) (search rules) (search rules)) }
 
 add-result-2 : tie.Need-overflow-add-result-2 invariant_loop decreases_loop
 add-result-2 c = search rules

@@ -3,7 +3,7 @@ use Prim.Native.Nat.{◌-◌}
 use mathlib.Core.Logic.{⊎_elim}
 use lib.ListN.{length}
 use borrow.Author.Rules.{rules}
-use Rattle.text.proofs.Text.{Scanned, scanned_none, scanned_byte, scanned_tab, scanned_end, scanned-all}
+use Rattle.text.proofs.Text.{Scanned, scanned_none, scanned_byte, scanned_tab, scanned_end, scanned_all}
 use Rattle.text.proofs.scan_line.Statement.{statement}
 use Rattle.text.proofs.scan_line.Tie as tie
 
@@ -40,7 +40,7 @@ loop-again c =
     c.if2.branch
 
 returns-2 : tie.Need-returns-2 invariant_loop decreases_loop
-returns-2 c = scanned-all _ _ _ _ c.before.loop.invariant (search rules)
+returns-2 c = scanned_all _ _ _ _ c.before.loop.invariant (search rules)
 
 pub scan_line_spec : {M : Type 1} → statement M
 scan_line_spec =

@@ -12,7 +12,7 @@ use Rattle.run.specs.Run.{state_of}
 use Rattle.step.proofs.Store.{rests}
 use Rattle.table.proofs.Cells.{raises}
 use Rattle.table.proofs.Ways.{next_at_cell, next_peak}
-use Rattle.walk.proofs.Steps.{cell_of, raised_cell, Going, starts_at, starts-plan, starts_way, going_start, going_level, going_next, going_end}
+use Rattle.walk.proofs.Steps.{cell_of, raised_cell, Going, starts_at, starts_plan, starts_way, going_start, going_level, going_next, going_end}
 use Rattle.walk.proofs.walk.Statement.{statement}
 use Rattle.walk.proofs.walk.Tie as tie
 
@@ -105,7 +105,7 @@ returns c =
     let x = a.requires.framed.axes in
     let m = a.args.f.head.jobs - a.args.start.done in
     going_end x.ranges c.loop-test.false c.before.loop.invariant
-    ∙ ap (λ (js : List ℕ). js ++ drop m a.args.part.now) (starts-plan x.ranges _ m (at_start c.before.before))
+    ∙ ap (λ (js : List ℕ). js ++ drop m a.args.part.now) (starts_plan x.ranges _ m (at_start c.before.before))
     ∙ ap (λ (k : ℕ). plan (sheet_of a.args.f.head a.args.store.now) (k - a.args.start.done) (state_of a.args.start) ++ drop (k - a.args.start.done) a.args.part.now) x.jobs
 
 pub walk_spec : {M : Type 1} → statement M

@@ -68,8 +68,8 @@ module _ (t : ℕ) where
       let w = p.put-number.ensures in
       omega (arith, a.requires.1, decimal_longer a.args.n p.before.before.if1.false a.ranges.n.fits, w.place, wrote_length w)
 
-  same-length-2 : lts.Need-same-length-2 (claims t) (put_number_at t) put-number.Post
-  same-length-2 c = search rules
+  same_length_2 : lts.Need-same-length-2 (claims t) (put_number_at t) put-number.Post
+  same_length_2 c = search rules
 
   returns_2 : lts.Need-returns-2 (claims t) (put_number_at t) put-number.Post
   returns_2 c =
@@ -90,5 +90,5 @@ pub +put-number-spec : {M : Type 1} → statement M
     (add_put_byte_2 t)
     (cast_put_byte_2 t)
     (put_byte_requires_2 t)
-    (same-length-2 t)
+    (same_length_2 t)
     (returns_2 t)

@@ -7,7 +7,7 @@ use native.Mathlib.Omega.{arith}
 use lib.ListN.{length, take}
 use borrow.Author.Rules.{rules}
 use Rattle.writer.specs.Written.{Wrote}
-use Rattle.writer.proofs.Written.{wrote_none, wrote_length, copy_more, copy-all}
+use Rattle.writer.proofs.Written.{wrote_none, wrote_length, copy_more, copy_all}
 use Rattle.writer.proofs.put_bytes.Statement.{statement}
 use Rattle.writer.proofs.put_bytes.Tie as tie
 
@@ -49,7 +49,7 @@ same_length : tie.Need-same-length invariant_loop decreases_loop
 same_length c = wrote_length c.before.loop.invariant.2
 
 returns : tie.Need-returns invariant_loop decreases_loop
-returns c = copy-all _ _ c.before.loop.invariant.2 (omega arith)
+returns c = copy_all _ _ c.before.loop.invariant.2 (omega arith)
 
 pub put_bytes_spec : {M : Type 1} → statement M
 put_bytes_spec =
