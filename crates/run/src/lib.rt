@@ -7,7 +7,7 @@ ghost use Rattle.run.specs.Run.{state_of, FiguresOf, Bounds};
 
 // A run so far, "one state that each job carries forward": jobs done, present level, time, energy, temperature, and the highest
 // temperature at a job end.
-#[derive(Drop)]
+#[derive(Clone, Copy)]
 pub struct Run {
     pub done: u32,
     pub level: u32,
@@ -18,14 +18,14 @@ pub struct Run {
 }
 
 // What a change of level adds: "those of the change from the level before".
-#[derive(Drop)]
+#[derive(Clone, Copy)]
 pub struct Change {
     pub time: u32,
     pub energy: u32,
 }
 
 // A job's figures at a level: "the job's time and energy there", the level's steady-state temperature and the decay.
-#[derive(Drop)]
+#[derive(Clone, Copy)]
 pub struct Job {
     pub time: u32,
     pub energy: u32,

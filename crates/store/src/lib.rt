@@ -4,7 +4,7 @@
 // A figure of a change stands in the store by the level left and then the level entered, one of a job by the job and then the level.
 
 // The figures of the V line and of the H line, in their order.
-#[derive(Drop)]
+#[derive(Clone, Copy)]
 pub struct Head {
     pub version: u32,
     pub jobs: u32,

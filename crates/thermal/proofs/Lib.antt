@@ -1,3 +1,4 @@
+pub mod Rounded
 pub mod Rounding
 pub mod Steady
 pub mod Thermal

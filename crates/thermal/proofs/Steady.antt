@@ -1,26 +1,13 @@
 -- Laws of the steady-state temperature. What lies above this crate knows it by these alone; the worked cases compute with its text.
 -- Assumes nothing.
-use mathlib.Core.Path.{◌≡◌, refl, sym}
+use mathlib.Core.Path.{◌≡◌, sym}
 use mathlib.Core.Logic.{◌≢◌}
-use Prim.Native.Nat.{ℕ, ◌+◌, ◌*◌, ◌-◌, ◌/◌, ◌%◌, ◌≤◌, ◌<◌}
+use Prim.Native.Nat.{ℕ, ◌+◌, ◌*◌, ◌/◌, ◌%◌, ◌≤◌, ◌<◌}
 use native.Mathlib.Nat.{le_antisymm}
 use native.Mathlib.Decide.{dec_le, dec_lt, ℕ_discrete}
 use native.Mathlib.Omega.{arith}
-use borrow.Author.Tests.{eq-eqb, ne_eqb}
 use Rattle.thermal.specs.Thermal.{steady_state, distance, NearestEven}
-
--- The two cases of the steady-state temperature: an exact half, and any other number.
-record Rounded (product nearest : ℕ) : Type 0 where
-  half : product % 10000 ≡ 5000 → nearest ≡ product / 10000 + product / 10000 % 2
-  other : product % 10000 ≢ 5000 → nearest ≡ (product + 5000) / 10000
-
-steady_rounded : (p r : ℕ) → Rounded (p * r) (steady_state p r)
-unfolding steady_state
-steady_rounded p r =
-    record {
-      half = λ h. rw (eq-eqb (p * r % 10000) 5000 h) refl;
-      other = λ h. rw (ne_eqb (p * r % 10000) 5000 h) refl;
-    }
+use Rattle.thermal.proofs.Rounded.{Rounded, steady_rounded}
 
 -- A number that is not on an exact half lies less than a half away.
 within_half : (x s : ℕ) → x % 10000 ≢ 5000 → s ≡ (x + 5000) / 10000 → distance x s < 5000
@@ -55,22 +42,6 @@ steady_only p r s h =
     let t = steady_state p r in
     let g = steady_nearest p r in
     le_antisymm (at_most _ s t h g) (at_most _ t s g h)
-
--- Of two numbers next to each other one is even.
-next_parity : (q : ℕ) → (q + 1) % 2 ≡ 1 - q % 2
-next_parity q = elim (ℕ_discrete (q % 2) 0) [ yes e ↦ omega arith | no e ↦ omega arith ]
-
--- The nearest whole number by one division: with one less where the upper neighbour is odd, an exact half goes to the lower one.
-pub steady_divided : (p r : ℕ) → (p * r + 5000 - (p * r / 10000 + 1) % 2) / 10000 ≡ steady_state p r
-steady_divided p r =
-    elim (ℕ_discrete (p * r % 10000) 5000) [
-      | yes h ↦ omega (arith, (steady_rounded p r).half h, next_parity (p * r / 10000))
-      | no h ↦
-          elim (dec_lt (p * r % 10000) 5000) [
-            | yes l ↦ omega (arith, (steady_rounded p r).other h)
-            | no l ↦ omega (arith, (steady_rounded p r).other h)
-          ]
-    ]
 
 -- Where P × R / 10,000 is at most a whole number, so is the steady-state temperature.
 pub steady_within : (p r n : ℕ) → p * r ≤ 10000 * n → steady_state p r ≤ n

@@ -1,7 +1,7 @@
 -- Laws of the thermal rule. What lies above this crate knows the rule by these alone; the worked cases compute with its text.
 -- Assumes nothing.
 use mathlib.Core.Path.{◌≡◌}
-use Prim.Native.Nat.{ℕ, ◌+◌, ◌*◌, ◌-◌, ◌≤◌, ◌<◌, max}
+use Prim.Native.Nat.{ℕ, ◌+◌, ◌-◌, ◌≤◌, max}
 use native.Mathlib.Nat.{mul-le-mul_left, mul-le-mul_right, le-max_left, le-max_right}
 use native.Mathlib.Omega.{arith}
 use Rattle.thermal.specs.Rounding.{ceil_div}
