@@ -1,21 +1,17 @@
 -- What follows a line, by the line's fault.
 -- Assumes nothing.
 use mathlib.Core.Path.{◌≡◌, refl}
-use mathlib.Core.List.{[], ◌∷◌}
-use types.Run.{OneOf, miss}
-use denote.Enum.Declared.{tag_of}
 use Rattle.fields.specs.Fields.{after}
 use Rattle.fields.specs.declared.Fault.{Fault}
 use Rattle.fields.specs.declared.Fault.TheVariants.{Sound, Shape, Form, Range}
-use Rattle.fields.specs.contracts.Fault.{the_type}
 use Rattle.fields.proofs.Within.{faulty, malformed, shapeless}
 
 -- A fault that is not `Sound`, as a match leaves it.
 abbrev pub Other : Fault → Type 0
-Other g = OneOf (1 ∷ 2 ∷ 3 ∷ []) (tag_of the_type g)
+Other g = g ≡ Sound → ⊥
 
 pub after_other : {X : Type 0} (g : Fault) (stop go : X) → Other g → after g stop go ≡ stop
-after_other Sound stop go h = absurd (miss (1 ∷ 2 ∷ 3 ∷ []) 0 tt h)
+after_other Sound stop go h = absurd (h refl)
 after_other Shape stop go h = refl
 after_other (Form f) stop go h = refl
 after_other (Range f) stop go h = refl

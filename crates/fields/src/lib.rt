@@ -8,7 +8,7 @@ use numbers::Field;
 use text::TAB;
 
 // What is wrong with a line: nothing, its letter or its count of fields, a field's form, or a field's range.
-#[derive(Drop)]
+#[derive(Clone, Copy)]
 pub enum Fault {
     Sound,
     Shape,

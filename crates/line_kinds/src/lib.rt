@@ -12,7 +12,7 @@ use store::{
 };
 
 // Which lines: L, with the sheet's thermal resistance; S, of the changes from a level; B.
-#[derive(Drop)]
+#[derive(Clone, Copy)]
 pub enum Kind {
     Level(u32),
     Change(usize),

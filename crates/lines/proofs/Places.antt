@@ -1,6 +1,6 @@
 -- Where the reading of a block of lines stops: its line, and the field of its fault.
 -- Assumes nothing.
-use mathlib.Core.List.{List, ◌∷◌}
+use mathlib.Core.List.{List}
 use Prim.Native.Nat.{ℕ, zero, suc, ◌+◌, ◌≤◌}
 use native.Mathlib.Omega.{arith}
 use lib.Dec.{ltb}

@@ -1,22 +1,15 @@
 -- A refusal as a match leaves it: where it has told `Nothing` apart, and where it has found a case.
 -- Assumes nothing.
-use mathlib.Core.Path.{◌≡◌, refl, subst}
-use mathlib.Core.List.{[], ◌∷◌}
+use mathlib.Core.Path.{◌≡◌, refl}
 use Prim.Native.Nat.{◌≤◌}
 use native.Mathlib.Omega.{arith}
-use types.Run.{OneOf, miss}
-use denote.Enum.Declared.{tag_of}
 use Rattle.refusal.specs.declared.Refusal.{Refusal}
 use Rattle.refusal.specs.declared.Refusal.TheVariants.{Nothing, TooLong, Line, Form, Range, Hot, Trailing}
 use Rattle.refusal.specs.declared.RefusalCode.{RefusalCode}
 use Rattle.refusal.specs.Code.{number_of, line_of, field_of, accepted, code_as}
-use Rattle.refusal.specs.contracts.Refusal.{the_type}
 
 abbrev pub Refuses : Refusal → Type 0
-Refuses f = OneOf (1 ∷ 2 ∷ 3 ∷ 4 ∷ 5 ∷ 6 ∷ []) (tag_of the_type f)
-
-pub refuses_some : (f : Refusal) → Refuses f → ¬ (f ≡ Nothing)
-refuses_some f h e = miss (1 ∷ 2 ∷ 3 ∷ 4 ∷ 5 ∷ 6 ∷ []) 0 tt (subst Refuses e h)
+Refuses f = ¬ (f ≡ Nothing)
 
 pub code_same : {f g : Refusal} (q : RefusalCode) → f ≡ g → q ≡ code_as (number_of g) (line_of g) (field_of g) → q ≡ code_as (number_of f) (line_of f) (field_of f)
 code_same q e h = rw e h
