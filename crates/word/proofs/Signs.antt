@@ -1,7 +1,7 @@
 -- Numbers below 2 ^ 31 compare as signed numbers as they do as naturals.
 -- Assumes nothing.
 use mathlib.Core.Path.{◌≡◌}
-use mathlib.Core.Bool.{Bool, true, false}
+use mathlib.Core.Bool.{true, false}
 use Prim.Native.Nat.{ℕ, ◌≤◌, ◌<◌, ◌^◌}
 use lib.Signed.{lt_z}
 use borrow.Author.Tests.{ltb-true, ltb-false}
