@@ -28,10 +28,8 @@ fn way(
     a: Run,
     j: u32,
 ) -> u64
-    ghost s: { Sheet }
-    requires store_value { sheet_of f.head store.now ≡ s }
-    requires fact { record { framed : Framed s f store.now steady.now; room : need s ≤ length table.now; at : AtCell s (state_of a); level : j < s.levels } }
-    ensures { result ≡ via s (rest_by s table.now) (state_of a) j }
+    requires { let s = sheet_of f.head store.now in record { framed : Framed s f store.now steady.now; room : need s ≤ length table.now; at : AtCell s (state_of a); level : j < s.levels } }
+    ensures { let s = sheet_of f.head store.now in result ≡ via s (rest_by s table.now) (state_of a) j }
 {
     let b = step::next_job(a, store, steady, j);
     if (f.head.energy_budget as u64) < b.energy {
@@ -52,10 +50,8 @@ pub fn choose(
     table: &[u32],
     a: Run,
 ) -> u32
-    ghost s: { Sheet }
-    requires store_value { sheet_of f.head store.now ≡ s }
-    requires fact { record { framed : Framed s f store.now steady.now; room : need s ≤ length table.now; at : AtCell s (state_of a) } }
-    ensures { result ≡ level_by s table.now (state_of a) }
+    requires { let s = sheet_of f.head store.now in record { framed : Framed s f store.now steady.now; room : need s ≤ length table.now; at : AtCell s (state_of a) } }
+    ensures { let s = sheet_of f.head store.now in result ≡ level_by s table.now (state_of a) }
 {
     let l = f.head.levels;
     let mut least = INFEASIBLE;

@@ -14,7 +14,7 @@ use Rattle.store.specs.Figures.{sheet_of}
 use Rattle.refusal.specs.declared.Refusal.{Refusal}
 use Rattle.refusal.specs.declared.Refusal.TheVariants.{Nothing}
 use Rattle.refusal.specs.Code.{number_of, line_of, field_of, accepted}
-use Rattle.refusal.proofs.Apart.{Refuses, refuses_some, accepted_refused, accepted_ways}
+use Rattle.refusal.proofs.Apart.{Refuses, accepted_refused, accepted_ways}
 use Rattle.sheet.specs.Reading.{SheetRead, reading_of}
 use Rattle.checks.specs.Checks.{lack_of, fault_of}
 use Rattle.checks.proofs.Checks.{fault_none}
@@ -53,7 +53,7 @@ module _ (words bytes : List ℕ) (r : SheetRead) (a : State) (q : Reply) where
 
   pub answers_sheet : Refuses r.refusal → q ≡ refused_reply (number_of r.refusal) (line_of r.refusal) (field_of r.refusal) → given words bytes
   unfolding afresh_to answer_by
-  answers_sheet h k = turned _ _ _ _ (accepted_refused r.refusal turned_away _ (refuses_some r.refusal h)) k
+  answers_sheet h k = turned _ _ _ _ (accepted_refused r.refusal turned_away _ h) k
 
   module _ (m : r.refusal ≡ Nothing) (s : Sheet) (e : s ≡ sheet_of r.head r.store) where
     passed : (x : Answer) → afresh_for s a (length words) (length bytes) ≡ x → afresh_to r a (length words) (length bytes) ≡ x

@@ -29,9 +29,7 @@ fn fill_job(
     part: &mut [u32],
     i: u32,
 )
-    ghost s: { Sheet }
-    requires store_value { sheet_of f.head store.now ≡ s }
-    requires fact { record {
+    requires { let s = sheet_of f.head store.now in record {
       framed : Framed s f store.now steady.now;
       room : need s ≤ length table.old;
       job : i < s.jobs;
@@ -39,7 +37,7 @@ fn fill_job(
       moves : Room shifts.old reaches.old times.old;
       scratch : scratch_size ≤ length part.old;
     } }
-    ensures { record {
+    ensures { let s = sheet_of f.head store.now in record {
       filled : FilledFrom s (base s i 0) table.old table.new;
       shifts : Scratch shifts.old shifts.new;
       reaches : Scratch reaches.old reaches.new;
@@ -57,10 +55,8 @@ fn fill_job(
 
 // Fills the table, from the last job to the first, so that a job finds the words of the next.
 pub fn fill(f: Frame, store: &[u32; STORE_SIZE], steady: &[u32; LEVELS_MAX], table: &mut [u32])
-    ghost s: { Sheet }
-    requires store_value { sheet_of f.head store.now ≡ s }
-    requires fact { record { framed : Framed s f store.now steady.now; room : need s ≤ length table.old } }
-    ensures { table.new ≡ filled s table.old }
+    requires { let s = sheet_of f.head store.now in record { framed : Framed s f store.now steady.now; room : need s ≤ length table.old } }
+    ensures { let s = sheet_of f.head store.now in table.new ≡ filled s table.old }
 {
     let mut shifts = [0u32; CHANGES_MAX];
     let mut reaches = [0u32; CHANGES_MAX];

@@ -21,16 +21,14 @@ fn expand_level(
     i: u32,
     j: u32,
 )
-    ghost s: { Sheet }
-    requires store_value { sheet_of f.head store.now ≡ s }
-    requires fact { record {
+    requires { let s = sheet_of f.head store.now in record {
       framed : Framed s f store.now steady.now;
       room : need s ≤ length table.old;
       job : i < s.jobs;
       level : j < s.levels;
       next : Holds s table.old (suc i);
     } }
-    ensures { Follows s i j table.old table.new }
+    ensures { let s = sheet_of f.head store.now in Follows s i j table.old table.new }
 {
     let rows = f.energy_cells;
     let width = f.temperature_cells;
@@ -52,10 +50,8 @@ pub fn expand_job(
     table: &mut [u32],
     i: u32,
 )
-    ghost s: { Sheet }
-    requires store_value { sheet_of f.head store.now ≡ s }
-    requires fact { record { framed : Framed s f store.now steady.now; room : need s ≤ length table.old; job : i < s.jobs; next : Holds s table.old (suc i) } }
-    ensures { Expanded s i table.old table.new }
+    requires { let s = sheet_of f.head store.now in record { framed : Framed s f store.now steady.now; room : need s ≤ length table.old; job : i < s.jobs; next : Holds s table.old (suc i) } }
+    ensures { let s = sheet_of f.head store.now in Expanded s i table.old table.new }
 {
     let levels = f.head.levels;
     let mut j: u32 = 0;

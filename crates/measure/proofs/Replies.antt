@@ -16,7 +16,7 @@ use Rattle.run.proofs.Small.{small_start, small_run}
 use Rattle.refusal.specs.declared.Refusal.TheVariants.{Nothing}
 use Rattle.refusal.specs.declared.RefusalCode.{RefusalCode}
 use Rattle.refusal.specs.Code.{number_of, line_of, field_of, code_as}
-use Rattle.refusal.proofs.Apart.{Refuses, refuses_some, accepted_refused}
+use Rattle.refusal.proofs.Apart.{Refuses, accepted_refused}
 use Rattle.sheet.specs.declared.Reading.{Reading}
 use Rattle.sheet.specs.Reading.{read_in, reading_of}
 use Rattle.sheet.proofs.Ranges.{reading_ranges}
@@ -48,7 +48,7 @@ module _ (t js : List ℕ) (r : Reading) (st : List ℕ) (e : read_in r st ≡ r
   pub measure_refused : (c : RefusalCode) → Refuses r.refusal → c ≡ code_as (number_of r.refusal) (line_of r.refusal) (field_of r.refusal) →
       refused_measured c.number c.line c.field ≡ measure_of t js
   unfolding measure_of
-  measure_refused c h k = rw (sym e, k) (sym (accepted_refused r.refusal turned_away _ (refuses_some r.refusal h)))
+  measure_refused c h k = rw (sym e, k) (sym (accepted_refused r.refusal turned_away _ h))
 
   module _ (n : r.refusal ≡ Nothing) where
     pub measure_length : (length js ≡ r.head.jobs → ⊥) → refused_measured 11 0 0 ≡ measure_of t js

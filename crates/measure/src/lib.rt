@@ -10,7 +10,7 @@ use refusal::Refusal;
 use store::{Head, STORE_SIZE};
 
 // What the measuring call says of a list: a refusal's number, line and field, or the three margins.
-#[derive(Drop)]
+#[derive(Clone, Copy)]
 pub struct Measured {
     pub refusal: u32,
     pub line: usize,

@@ -44,10 +44,8 @@ fn move_of(
     p: u32,
     j: u32,
 ) -> Move
-    ghost s: { Sheet }
-    requires store_value { sheet_of f.head store.now ≡ s }
-    requires fact { record { framed : Framed s f store.now steady.now; job : i < s.jobs; left : p < s.levels; entered : j < s.levels } }
-    ensures { result ≡ move_of s i p j }
+    requires { let s = sheet_of f.head store.now in record { framed : Framed s f store.now steady.now; job : i < s.jobs; left : p < s.levels; entered : j < s.levels } }
+    ensures { let s = sheet_of f.head store.now in result ≡ move_of s i p j }
 {
     let b = step::next_job(Run::fresh(i, p, 0, 0), store, steady, j);
     let time = b.time as u32;
@@ -81,16 +79,14 @@ fn find_moves_from(
     reaches: &mut [u32],
     times: &mut [u32],
 )
-    ghost s: { Sheet }
-    requires store_value { sheet_of f.head store.now ≡ s }
-    requires fact { record {
+    requires { let s = sheet_of f.head store.now in record {
       framed : Framed s f store.now steady.now;
       job : i < s.jobs;
       left : p < s.levels;
       room : Room shifts.old reaches.old times.old;
       before : Moves s i (p * s.levels) shifts.old reaches.old times.old;
     } }
-    ensures { Moves s i (p * s.levels + s.levels) shifts.new reaches.new times.new }
+    ensures { let s = sheet_of f.head store.now in Moves s i (p * s.levels + s.levels) shifts.new reaches.new times.new }
 {
     let l = f.head.levels;
     let mut j: u32 = 0;
@@ -114,10 +110,8 @@ pub fn find_moves(
     reaches: &mut [u32],
     times: &mut [u32],
 )
-    ghost s: { Sheet }
-    requires store_value { sheet_of f.head store.now ≡ s }
-    requires fact { record { framed : Framed s f store.now steady.now; job : i < s.jobs; room : Room shifts.old reaches.old times.old } }
-    ensures { Moves s i (s.levels * s.levels) shifts.new reaches.new times.new }
+    requires { let s = sheet_of f.head store.now in record { framed : Framed s f store.now steady.now; job : i < s.jobs; room : Room shifts.old reaches.old times.old } }
+    ensures { let s = sheet_of f.head store.now in Moves s i (s.levels * s.levels) shifts.new reaches.new times.new }
 {
     let l = f.head.levels;
     let mut p: u32 = 0;

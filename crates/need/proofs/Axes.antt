@@ -1,20 +1,19 @@
 -- The axes that the planner works out are the sheet's, and the need stays in 64 bits.
 -- Assumes nothing.
-use mathlib.Core.Path.{◌≡◌, refl, ap, sym, ◌∙◌}
+use mathlib.Core.Path.{◌≡◌, refl}
 use mathlib.Core.List.{List}
 use Prim.Native.Nat.{ℕ, ◌+◌, ◌*◌, ◌≤◌, ◌<◌, ◌^◌}
 use native.Mathlib.Nat.{mul-le-mul, le-mul_of_pos_right}
 use native.Mathlib.Omega.{arith}
 use Rattle.thermal.specs.Rounding.{ceil_div}
 use Rattle.thermal.proofs.Rounding.{ceil_least}
-use Rattle.frame.specs.Sheet.{Sheet, Ranges, limit_max, temperature_max}
+use Rattle.frame.specs.Sheet.{Ranges, limit_max, temperature_max}
 use Rattle.frame.specs.Table.{energy_cells, temperature_cells, need, words_max}
 use Rattle.store.specs.declared.Head.{Head}
 use Rattle.store.specs.Store.{jobs_max, levels_max, works_max}
 use Rattle.store.specs.Figures.{sheet_of}
-use Rattle.table.specs.declared.Frame.{Frame}
 use Rattle.table.specs.Table.{Axes}
-use Rattle.need.specs.Axes.{Lawful, bare, axes_of}
+use Rattle.need.specs.Axes.{bare, axes_of}
 
 -- A quotient that is rounded up is no larger than what is divided.
 pub ceil_most : (x k : ℕ) → 0 < k → ceil_div x k ≤ x

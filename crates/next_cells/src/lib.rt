@@ -42,16 +42,14 @@ pub fn map_cells(
     j: u32,
     at: usize,
 )
-    ghost s: { Sheet }
-    requires store_value { sheet_of f.head store.now ≡ s }
-    requires fact { record {
+    requires { let s = sheet_of f.head store.now in record {
       framed : Framed s f store.now steady.now;
       job : i < s.jobs;
       level : j < s.levels;
       room : at + temperature_cells s ≤ length table.old;
       allowed : at ≤ words_max;
     } }
-    ensures { Spans table.old table.new at (temperature_cells s) (next_cell s i j) }
+    ensures { let s = sheet_of f.head store.now in Spans table.old table.new at (temperature_cells s) (next_cell s i j) }
 {
     let step = f.head.temperature_step as u64;
     let multiplier = (WORD_MAX / f.head.temperature_step) as u64 + 1;

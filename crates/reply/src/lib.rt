@@ -6,7 +6,7 @@ ghost use Rattle.reply.specs.Answer.{refused_reply, planned_as};
 use run::Run;
 
 // What the planner says of a sheet: a refusal's number, line and field, or the figures of a plan.
-#[derive(Drop)]
+#[derive(Clone, Copy)]
 pub struct Reply {
     pub refusal: u32,
     pub line: usize,

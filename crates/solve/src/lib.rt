@@ -22,13 +22,11 @@ fn find_plan(
     table: &mut [u32],
     part: &mut [u8],
 ) -> bool
-    ghost s: { Sheet }
-    requires store_value { sheet_of f.head store.now ≡ s }
-    requires fact { record {
+    requires { let s = sheet_of f.head store.now in record {
       framed : Framed s f store.now steady.now;
       ready : Ready s (state_of start) (length table.old) (length part.old);
     } }
-    ensures { Finds s (s.jobs - start.done) (state_of start) table.old table.new part.old part.new result }
+    ensures { let s = sheet_of f.head store.now in Finds s (s.jobs - start.done) (state_of start) table.old table.new part.old part.new result }
 {
     fill::fill(f, store, steady, table);
     if (f.head.energy_budget as u64) < start.energy {
@@ -50,10 +48,8 @@ pub fn solve(
     table: &mut [u32],
     part: &mut [u8],
 ) -> Reply
-    ghost s: { Sheet }
-    requires store_value { sheet_of f.head store.now ≡ s }
-    requires fact { record { axes : Axes s f; ready : Ready s (state_of start) (length table.old) (length part.old) } }
-    ensures { Answers (found_from s (state_of start)) table.old table.new part.old part.new result }
+    requires { let s = sheet_of f.head store.now in record { axes : Axes s f; ready : Ready s (state_of start) (length table.old) (length part.old) } }
+    ensures { let s = sheet_of f.head store.now in Answers (found_from s (state_of start)) table.old table.new part.old part.new result }
 {
     let states = step::steady_states(store, f.head.resistance);
     let steady = states.levels;

@@ -10,7 +10,7 @@ use store::Head;
 pub const WORDS_MAX: usize = 4_194_304;
 
 // A sheet's V and H lines, and the cells of the table's two axes.
-#[derive(Drop)]
+#[derive(Clone, Copy)]
 pub struct Frame {
     pub head: Head,
     pub energy_cells: usize,

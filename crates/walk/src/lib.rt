@@ -35,16 +35,14 @@ pub fn walk(
     start: Run,
     part: &mut [u8],
 )
-    ghost s: { Sheet }
-    requires store_value { sheet_of f.head store.now ≡ s }
-    requires fact { record {
+    requires { let s = sheet_of f.head store.now in record {
       framed : Framed s f store.now steady.now;
       room : need s ≤ length table.now;
       words : (i : ℕ) → Holds s table.now i;
       starts : Starts s (state_of start);
       long : s.jobs - start.done ≤ length part.old;
     } }
-    ensures { part.new ≡ plan s (s.jobs - start.done) (state_of start) ++ drop (s.jobs - start.done) part.old }
+    ensures { let s = sheet_of f.head store.now in part.new ≡ plan s (s.jobs - start.done) (state_of start) ++ drop (s.jobs - start.done) part.old }
 {
     let n = (f.head.jobs - start.done) as usize;
     let mut a = raise_run(f, start);
