@@ -1,6 +1,6 @@
 #![tactic(auto)]
 
-// The calls that the logger's firmware links.
+// The calls that the logger's firmware links; the crate begbija_c exports them to C.
 ghost use Rattle.std.specs.Prelude.{◌≡◌, length};
 ghost use Rattle.measure.specs.Measure.{measure_of};
 ghost use Rattle.measure.specs.Meaning.{Meaning};
@@ -15,8 +15,7 @@ ghost use Rattle.c_values.specs.Values.{minus, reply_in, figures_of, measured_in
 ghost use Rattle.begbija.specs.Begbija.{text_number, need_number, TextDemands};
 
 // The bytes of plan text written, or minus the refusal.
-#[unsafe(no_mangle)]
-pub extern "C" fn begbija_plan_text(sheet: &[u8], text: &mut [u8]) -> i64
+pub fn begbija_plan_text(sheet: &[u8], text: &mut [u8]) -> i64
     ensures value { result ≡ text_number (report_of sheet.now (length text.old) (answer_in sheet.now)) }
     ensures text_after { text.new ≡ text_after sheet.now (answer_in sheet.now) text.old }
     ensures text_demands { TextDemands sheet.now (length text.old) text.new result }
@@ -26,13 +25,7 @@ pub extern "C" fn begbija_plan_text(sheet: &[u8], text: &mut [u8]) -> i64
 }
 
 // 0 for a plan, or minus the refusal; the figures of either in `reply`.
-#[unsafe(no_mangle)]
-pub extern "C" fn begbija_plan(
-    sheet: &[u8],
-    table: &mut [u32],
-    levels: &mut [u8],
-    reply: &mut [u64; 7],
-) -> i64
+pub fn begbija_plan(sheet: &[u8], table: &mut [u32], levels: &mut [u8], reply: &mut [u64; 7]) -> i64
     ensures value { result ≡ minus (reply_in reply.new).refusal }
     ensures answers { Answers (answer_of sheet.now (length table.old) (length levels.old)) table.old table.new levels.old levels.new (reply_in reply.new) }
     ensures demands { Demands sheet.now (length table.old) (length levels.old) levels.new (reply_in reply.new) }
@@ -43,8 +36,7 @@ pub extern "C" fn begbija_plan(
 }
 
 // 0 for a plan of the jobs still to do after what is read, or minus the refusal; the figures of either in `reply`.
-#[unsafe(no_mangle)]
-pub extern "C" fn begbija_plan_afresh(
+pub fn begbija_plan_afresh(
     sheet: &[u8],
     done: u32,
     level: u32,
@@ -65,8 +57,7 @@ pub extern "C" fn begbija_plan_afresh(
 }
 
 // 0 for a list that was measured, or minus the refusal; the figures of either in `margins`.
-#[unsafe(no_mangle)]
-pub extern "C" fn begbija_measure(sheet: &[u8], levels: &[u8], margins: &mut [i64; 6]) -> i64
+pub fn begbija_measure(sheet: &[u8], levels: &[u8], margins: &mut [i64; 6]) -> i64
     ensures value { result ≡ minus (measure_of sheet.now levels.now).refusal }
     ensures margins_after { margins.new ≡ figures_of (measure_of sheet.now levels.now) }
     ensures meaning { Meaning sheet.now levels.now (measured_in margins.new) }
@@ -77,8 +68,7 @@ pub extern "C" fn begbija_measure(sheet: &[u8], levels: &[u8], margins: &mut [i6
 }
 
 // The words that a sheet needs, or minus its refusal of 1 to 6.
-#[unsafe(no_mangle)]
-pub extern "C" fn begbija_need(sheet: &[u8]) -> i64
+pub fn begbija_need(sheet: &[u8]) -> i64
     ensures { result ≡ need_number (words_of sheet.now) }
 {
     let n = need::count_words(sheet);

@@ -38,6 +38,7 @@ pub fn write_plan(s: &[u8], text: &mut [u8]) -> Report
     let mut levels = [0u8; JOBS_MAX];
     let mut store = [0u32; STORE_SIZE];
     let r = sheet::read(s, &mut store);
+    let head = r.head;
     let p = planner::plan_read(r, &store, &mut table, &mut levels);
     let refusal = p.refusal;
     let line = p.line;
@@ -53,7 +54,7 @@ pub fn write_plan(s: &[u8], text: &mut [u8]) -> Report
     if 9 < refusal {
         return refuse(10, 0, 0);
     }
-    let n = plan_text::put_plan(s, r.head, &store, &levels, text);
+    let n = plan_text::put_plan(s, head, &store, &levels, text);
     Report {
         refusal: 0,
         line: 0,
