@@ -11,10 +11,10 @@
 ghost use Rattle.std.specs.Prelude.{◌<◌, ◌≤◌, length};
 ghost use Rattle.store.specs.Store.{jobs_max};
 
-use libc::STDOUT_FILENO;
 use measure::Measured;
 use numbers::Field;
 use reply::Reply;
+use std::io::{Read, Stdin};
 use std::num;
 use store::JOBS_MAX;
 use text::TAB;
@@ -29,62 +29,72 @@ type Table = [u32; TABLE_SIZE];
 
 type Part = [u8; JOBS_MAX];
 
+// Writes bytes. Where they cannot be written, what is printed is not what is expected, which tells it.
+fn print_bytes(out: &impl Print, bytes: &[u8]) {
+    let _ = out.write_all(bytes);
+}
+
+// Writes a number.
+fn print_decimal(out: &impl Print, n: u64) {
+    let _ = out.print(n);
+}
+
 // Writes a tab and a number.
-fn print_number(n: u64) {
-    io::write_all(STDOUT_FILENO, b"\t");
-    io::print_decimal(STDOUT_FILENO, n);
+fn print_number(out: &impl Print, n: u64) {
+    print_bytes(out, b"\t");
+    print_decimal(out, n);
 }
 
 // Writes a tab and a signed number.
-fn print_signed(n: i64) {
+fn print_signed(out: &impl Print, n: i64) {
     if n < 0 {
-        io::write_all(STDOUT_FILENO, b"\t-");
+        print_bytes(out, b"\t-");
         let k = -1 - n;
-        io::print_decimal(STDOUT_FILENO, k as u64 + 1);
+        print_decimal(out, k as u64 + 1);
     } else {
-        print_number(n as u64);
+        print_number(out, n as u64);
     }
 }
 
 // Writes a refusal's number, line and field.
-fn print_three(number: u64, line: usize, field: usize) {
-    print_number(number);
-    print_number(line as u64);
-    print_number(field as u64);
+fn print_three(out: &impl Print, number: u64, line: usize, field: usize) {
+    print_number(out, number);
+    print_number(out, line as u64);
+    print_number(out, field as u64);
 }
 
 // Writes what a measured list gives.
-fn print_measured(q: Measured) {
-    print_three(q.refusal as u64, q.line, q.field);
-    print_signed(q.time);
-    print_signed(q.energy);
-    print_signed(q.temperature);
+fn print_measured(out: &impl Print, q: Measured) {
+    print_three(out, q.refusal as u64, q.line, q.field);
+    print_signed(out, q.time);
+    print_signed(out, q.energy);
+    print_signed(out, q.temperature);
 }
 
 // Writes a tab and the name of a job.
-fn print_name(s: &[u8], i: usize) {
-    io::write_all(STDOUT_FILENO, b"\t");
-    io::write_all(STDOUT_FILENO, names::job_name(s, i));
+fn print_name(out: &impl Print, s: &[u8], i: usize) {
+    print_bytes(out, b"\t");
+    print_bytes(out, names::job_name(s, i));
 }
 
 // Writes the planner's reply but for its peak, which document 01 leaves open.
-fn print_reply(q: Reply) {
-    print_three(q.refusal as u64, q.line, q.field);
-    print_number(q.time);
-    print_number(q.energy);
-    print_number(q.temperature);
+fn print_reply(out: &impl Print, q: Reply) {
+    print_three(out, q.refusal as u64, q.line, q.field);
+    print_number(out, q.time);
+    print_number(out, q.energy);
+    print_number(out, q.temperature);
 }
 
 // Writes a tab and the part: a level as its digit, 9 for a byte that is not written.
-fn print_part(part: &Part) {
+fn print_part(out: &impl Print, part: &Part) {
     let mut digits = [0u8; JOBS_MAX];
     let mut i: usize = 0;
     while i < JOBS_MAX {
         digits[i] = num::wrapping_add_u8(part[i], 48);
         i += 1;
     }
-    io::write_all(STDOUT_FILENO, b"\t");
-    io::write_all(STDOUT_FILENO, &digits);
+    print_bytes(out, b"\t");
+    print_bytes(out, &digits);
 }
 
 fn wide(n: u32) -> u64 {
@@ -105,20 +115,20 @@ fn weigh(table: &Table) -> u64 {
 }
 
 // Writes a reply, and what the whole table and part hold after it.
-fn print_answer(q: Reply, table: &Table, part: &Part) {
-    print_reply(q);
-    print_part(part);
-    print_number(weigh(table));
+fn print_answer(out: &impl Print, q: Reply, table: &Table, part: &Part) {
+    print_reply(out, q);
+    print_part(out, part);
+    print_number(out, weigh(table));
 }
 
 // Plans a sheet with the first words of a table of zeros and the first bytes of a part that holds no levels.
-fn print_plan(s: &[u8], words: usize, bytes: usize)
+fn print_plan(out: &impl Print, s: &[u8], words: usize, bytes: usize)
     requires { (words ≤ 16384) × (bytes ≤ jobs_max) }
 {
     let mut table: Table = [0; TABLE_SIZE];
     let mut part: Part = [9; JOBS_MAX];
     let q = planner::plan(s, &mut table[..words], &mut part[..bytes]);
-    print_answer(q, &table, &part);
+    print_answer(out, q, &table, &part);
 }
 
 // Where the field at place i, from 0, starts in a part whose fields are parted by tabs: at its end where it has none.
@@ -158,7 +168,7 @@ fn figure_in(s: &[u8], i: usize) -> u32 {
 }
 
 // Plans a sheet afresh from the reading in the numbers of a case, with memory as in `print_plan`.
-fn print_afresh(s: &[u8], numbers: &[u8], words: usize, bytes: usize)
+fn print_afresh(out: &impl Print, s: &[u8], numbers: &[u8], words: usize, bytes: usize)
     requires { (words ≤ 16384) × (bytes ≤ jobs_max) }
 {
     let mut table: Table = [0; TABLE_SIZE];
@@ -178,25 +188,25 @@ fn print_afresh(s: &[u8], numbers: &[u8], words: usize, bytes: usize)
         &mut table[..words],
         &mut part[..bytes],
     );
-    print_answer(q, &table, &part);
+    print_answer(out, q, &table, &part);
 }
 
 // Writes the line of one case.
-fn print_case(note: &[u8], s: &[u8], levels: &[u8], numbers: &[u8]) {
-    io::write_all(STDOUT_FILENO, note);
-    print_measured(measure::measure(s, levels));
-    print_name(s, 0);
-    print_name(s, 1);
-    print_name(s, JOBS_MAX);
+fn print_case(out: &impl Print, note: &[u8], s: &[u8], levels: &[u8], numbers: &[u8]) {
+    print_bytes(out, note);
+    print_measured(out, measure::measure(s, levels));
+    print_name(out, s, 0);
+    print_name(out, s, 1);
+    print_name(out, s, JOBS_MAX);
     let words = number_in(numbers, 0, TABLE_SIZE);
     let bytes = number_in(numbers, 1, JOBS_MAX);
-    print_plan(s, words, bytes);
-    print_afresh(s, numbers, words, bytes);
-    io::write_all(STDOUT_FILENO, b"\n");
+    print_plan(out, s, words, bytes);
+    print_afresh(out, s, numbers, words, bytes);
+    print_bytes(out, b"\n");
 }
 
 // Runs the case that starts at `at`, and hands back where the next one starts: beyond the input where none does.
-fn run_case(s: &[u8], at: usize) -> usize
+fn run_case(out: &impl Print, s: &[u8], at: usize) -> usize
     requires { at ≤ length s.now }
     ensures { at < result }
 {
@@ -216,16 +226,34 @@ fn run_case(s: &[u8], at: usize) -> usize
     if d == s.len() {
         return d + 1;
     }
-    print_case(&s[at..a], &s[a + 1..b], &s[b + 1..c], &s[c + 1..d]);
+    print_case(out, &s[at..a], &s[a + 1..b], &s[b + 1..c], &s[c + 1..d]);
     d + 1
 }
 
-fn main() {
+// Reads until the input ends, reading fails or the buffer is full, and hands back how many bytes came.
+fn read_input(stdin: &mut Stdin, input: &mut [u8]) -> usize
+    ensures { result ≤ length input.new }
+{
+    let mut n: usize = 0;
+    while n < input.len() {
+        let got = stdin.read(&mut input[n..]);
+        let Ok(count) = got else {
+            return n;
+        };
+        if count == 0 {
+            break;
+        }
+        n += count;
+    }
+    n
+}
+
+fn main(rt: HostRuntime) {
     let mut input = [0u8; 262144];
-    let n = io::read_full(0, &mut input);
+    let n = read_input(&mut rt.stdin(), &mut input);
     let s = &input[..n];
     let mut at: usize = 0;
     while at < s.len() {
-        at = run_case(s, at);
+        at = run_case(&rt, s, at);
     }
 }

@@ -4,8 +4,8 @@
 ghost use Rattle.std.specs.Prelude.{◌≤◌, length};
 ghost use Rattle.plan.specs.Input.{Within, More};
 
-use libc::{STDERR_FILENO, STDIN_FILENO, STDOUT_FILENO};
 use plan_text::TEXT_LEAST;
+use std::io::{Read, Stdin};
 
 // How many bytes came, or that reading failed.
 #[derive(Drop)]
@@ -15,24 +15,24 @@ enum Input {
 }
 
 // Reads once, to place n of the buffer; 0 bytes are the input's end.
-fn read_more(sheet: &mut [u8], n: usize) -> Input
+fn read_more(stdin: &mut Stdin, sheet: &mut [u8], n: usize) -> Input
     requires { n ≤ length sheet.old }
     ensures { More sheet.old sheet.new n result }
 {
-    let got = libc::read(STDIN_FILENO, &mut sheet[n..]);
-    if got < 0 {
-        return Input::Unreadable;
+    let got = stdin.read(&mut sheet[n..]);
+    match got {
+        Ok(count) => Input::Bytes(count),
+        Err(_) => Input::Unreadable,
     }
-    Input::Bytes(io::count(got, &sheet[n..]))
 }
 
 // Reads until the input ends or the buffer is full: a pipe hands its bytes over in pieces.
-fn read_sheet(sheet: &mut [u8]) -> Input
+fn read_sheet(stdin: &mut Stdin, sheet: &mut [u8]) -> Input
     ensures { Within 0 result sheet.new }
 {
     let mut n: usize = 0;
     while n < sheet.len() {
-        let more = read_more(sheet, n);
+        let more = read_more(stdin, sheet, n);
         let Input::Bytes(count) = more else {
             return Input::Unreadable;
         };
@@ -44,23 +44,26 @@ fn read_sheet(sheet: &mut [u8]) -> Input
     Input::Bytes(n)
 }
 
+// Says on standard error what cannot be done. Where that cannot be written either, nothing is left to tell.
+fn complain(rt: &impl Eprint, line: &str) {
+    let _ = rt.eprintln(line);
+}
+
 // Prints the plan or the refusal of a sheet.
-fn print_plan(sheet: &[u8]) {
+fn print_plan(rt: &(impl Print + Eprint), sheet: &[u8]) {
     let mut text = [0u8; TEXT_LEAST];
     let size = printout::put_printout(sheet, &mut text);
-    if !io::write_all(STDOUT_FILENO, &text[..size]) {
-        io::write_all(STDERR_FILENO, b"plan: standard output cannot be written\n");
+    if rt.write_all(&text[..size]).is_err() {
+        complain(rt, "plan: standard output cannot be written");
     }
 }
 
 // The first 20,481 bytes tell what is printed, however long the input is: `cut_same` in crates/printout/proofs/Cut.antt.
-fn main() {
+fn main(rt: HostRuntime) {
     let mut sheet = [0u8; 20481];
-    let input = read_sheet(&mut sheet);
+    let input = read_sheet(&mut rt.stdin(), &mut sheet);
     match input {
-        Input::Bytes(n) => print_plan(&sheet[..n]),
-        Input::Unreadable => {
-            io::write_all(STDERR_FILENO, b"plan: standard input cannot be read\n");
-        }
+        Input::Bytes(n) => print_plan(&rt, &sheet[..n]),
+        Input::Unreadable => complain(&rt, "plan: standard input cannot be read"),
     }
 }
