@@ -23,7 +23,7 @@
  * else writes to what is lent, nor reads what the call writes; the memory that is written (text, table, levels but for those of
  * begbija_measure, reply, margins) overlaps nothing else that is lent.
  *
- * What the machine code asks. The archive is for x86-64 and no other processor: its toolchain has no other target.
+ * What the machine code asks. The archive is for x86-64, with no later extension, and no other processor.
  *
  * - SSE2. Firmware that starts on the bare processor switches SSE on before the first call. No floating-point number is used.
  * - The System V calling convention: its registers, a stack pointer on a multiple of 16 at the call, the direction flag clear.
@@ -68,7 +68,7 @@ extern "C" {
 #define BEGBIJA_NO_WAY 4294967295u
 
 /* The most bytes of code, constants included: what `size` calls text, of the whole archive. */
-#define BEGBIJA_CODE_BYTES 23552
+#define BEGBIJA_CODE_BYTES 24576
 
 /*
  * The most bytes of stack that a call takes. They are measured, on sheets of every kind, by running a call on a stack that is
