@@ -51,25 +51,19 @@ returns-then-refusal-lt10 c =
 pub returns-then-text-lt-TEXT_LEAST : goal.returns-then-text-lt-TEXT_LEAST
 returns-then-text-lt-TEXT_LEAST c =
     let v = answered _ _ _ _ _ c.read-r.ensures c.plan_read-p.ensures in
-    let o : 0 < c.plan_read-p.result.refusal → 10 ≤ c.plan_read-p.result.refusal =
-    λ h. elim c.if-refusal-gt0.branch [ then-refusal-gt0+else-refusal-lt10 w ↦ omega arith | else-refusal-gt0 w ↦ absurd (omega arith) ] in
-    let m = told_narrow _ _ _ _ _ _ _ o (answer_in _) (told _) v c.if-text-lt-TEXT_LEAST.true _ c.refuse-then-text-lt-TEXT_LEAST.ensures in
+    let m = told_narrow _ _ _ _ _ _ _ (λ h. grind arith) (answer_in _) (told _) v c.if-text-lt-TEXT_LEAST.true _ c.refuse-then-text-lt-TEXT_LEAST.ensures in
     record { value = m.0; text_after = m.1.0; length_le_text_least = m.1.1 }
 
 pub returns-then-refusal-gt9 : goal.returns-then-refusal-gt9
 returns-then-refusal-gt9 c =
     let v = answered _ _ _ _ _ c.read-r.ensures c.plan_read-p.ensures in
-    let o : 0 < c.plan_read-p.result.refusal → 10 ≤ c.plan_read-p.result.refusal =
-    λ h. elim c.if-refusal-gt0.branch [ then-refusal-gt0+else-refusal-lt10 w ↦ omega arith | else-refusal-gt0 w ↦ absurd (omega arith) ] in
-    let m = told_none _ _ _ _ _ _ _ o c.if-text-lt-TEXT_LEAST.false (answer_in _) (told _) v (omega (arith, c.if-refusal-gt9.true)) _ c.refuse-then-refusal-gt9.ensures in
+    let m = told_none _ _ _ _ _ _ _ (λ h. grind arith) c.if-text-lt-TEXT_LEAST.false (answer_in _) (told _) v (omega (arith, c.if-refusal-gt9.true)) _ c.refuse-then-refusal-gt9.ensures in
     record { value = m.0; text_after = m.1.0; length_le_text_least = m.1.1 }
 
 pub put_plan-n-requires : goal.put_plan-n-requires
 put_plan-n-requires c =
     let e = c.read-r.ensures in
-    let o : 0 < c.plan_read-p.result.refusal → 10 ≤ c.plan_read-p.result.refusal =
-    λ h. elim c.if-refusal-gt0.branch [ then-refusal-gt0+else-refusal-lt10 w ↦ omega arith | else-refusal-gt0 w ↦ absurd (omega arith) ] in
-    let z = zero_left _ o c.if-refusal-gt9.false in
+    let z = zero_left c.plan_read-p.result.refusal (λ h. grind arith) c.if-refusal-gt9.false in
     let s = c.args.s.now in
     let w = told s in
     let v = answered _ _ _ _ _ e c.plan_read-p.ensures in
@@ -90,7 +84,5 @@ returns c =
     let e = c.read-r.ensures in
     let p = c.put_plan-n.ensures in
     let v = answered _ _ _ _ _ e c.plan_read-p.ensures in
-    let o : 0 < c.plan_read-p.result.refusal → 10 ≤ c.plan_read-p.result.refusal =
-    λ h. elim c.if-refusal-gt0.branch [ then-refusal-gt0+else-refusal-lt10 w ↦ omega arith | else-refusal-gt0 w ↦ absurd (omega arith) ] in
-    let m = told_plan _ _ _ _ _ _ _ (zero_left _ o c.if-refusal-gt9.false) (answer_in _) (told _) v c.if-text-lt-TEXT_LEAST.false _ _ _ p.upper_bound (read_wrote _ _ e _ _ _ _ p.wrote) refl in
+    let m = told_plan _ _ _ _ _ _ _ (zero_left c.plan_read-p.result.refusal (λ h. grind arith) c.if-refusal-gt9.false) (answer_in _) (told _) v c.if-text-lt-TEXT_LEAST.false _ _ _ p.upper_bound (read_wrote _ _ e _ _ _ _ p.wrote) refl in
     record { value = m.0; text_after = m.1.0; length_le_text_least = m.1.1 }
