@@ -44,8 +44,5 @@ returns-then-t-lt-INFEASIBLE c =
 
 pub returns-else-t-lt-INFEASIBLE : goal.returns-else-t-lt-INFEASIBLE
 returns-else-t-lt-INFEASIBLE c =
-    omega (
-      arith,
-      way_within c.requires.framed.axes c.requires.at c.requires.level _ (c.next_job-b.ensures _ c.requires.framed.stored) c.if-f-b.false c.if-f-b-2.false _ _ c.rest_of.ensures,
-      c.if-t-lt-INFEASIBLE.false,
-    )
+    let v = way_within c.requires.framed.axes c.requires.at c.requires.level _ (c.next_job-b.ensures _ c.requires.framed.stored) c.if-f-b.false c.if-f-b-2.false _ _ c.rest_of.ensures in
+    omega (arith, v, c.if-t-lt-INFEASIBLE.false)
