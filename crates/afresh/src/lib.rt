@@ -4,10 +4,12 @@
 ghost use Rattle.std.specs.Prelude.{◌≡◌, length};
 ghost use Rattle.frame.specs.Afresh.{reading};
 ghost use Rattle.reply.specs.Answer.{Answers};
+ghost use Rattle.reply.specs.Reply.{reply_by};
 ghost use Rattle.demands.specs.Order.{afresh_of};
 ghost use Rattle.demands.specs.Afresh.{AfreshDemands};
 
-use reply::Reply;
+use refusal::Refusal;
+use reply::Totals;
 use run::Run;
 use store::STORE_SIZE;
 
@@ -21,12 +23,12 @@ pub fn plan_afresh(
     temperature: u32,
     table: &mut [u32],
     part: &mut [u8],
-) -> Reply
-    ensures answers { Answers (afresh_of s.now (reading done level time energy temperature) (length table.old) (length part.old)) table.old table.new part.old part.new result }
-    ensures afresh_demands { AfreshDemands s.now (reading done level time energy temperature) (length table.old) (length part.old) part.new result }
+) -> Result<Totals, Refusal>
+    ensures answers { Answers (afresh_of s.now (reading done level time energy temperature) (length table.old) (length part.old)) table.old table.new part.old part.new (reply_by result) }
+    ensures afresh_demands { AfreshDemands s.now (reading done level time energy temperature) (length table.old) (length part.old) part.new (reply_by result) }
 {
     let mut store = [0u32; STORE_SIZE];
-    let r = sheet::read(s, &mut store);
+    let read = sheet::read(s, &mut store);
     let start = Run {
         done,
         level,
@@ -35,5 +37,5 @@ pub fn plan_afresh(
         temperature: temperature as u64,
         peak: 0,
     };
-    planner::plan_left(r, &store, start, table, part)
+    planner::plan_left(read, &store, start, table, part)
 }

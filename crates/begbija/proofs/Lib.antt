@@ -1,1 +1,2 @@
 pub mod TextDemands
+pub mod Numbers

@@ -21,9 +21,12 @@ use Rattle.demands.specs.Order.{answer_of}
 use Rattle.demands.specs.Demands.{plan_in, Demands}
 use Rattle.demands.proofs.Ways.{reply_to, answer_demands}
 use Rattle.plan_text.specs.Text.{text_least, plan_text}
-use Rattle.report.specs.Report.{table_words, answer_in, report_of, text_after}
+use Rattle.std.specs.Prelude.{Result, Ok, Err}
+use Rattle.refusal.specs.declared.Refusal.{Refusal}
+use Rattle.refusal.specs.Code.{number_of}
+use Rattle.report.specs.Report.{report_by, table_words, answer_in, report_of, text_after}
 use Rattle.report.proofs.Told.{Told, answer_told, told_best}
-use Rattle.c_values.specs.Values.{minus}
+use Rattle.c_values.specs.Values.{minus, number_by}
 use Rattle.begbija.specs.Begbija.{text_number, TextDemands}
 
 -- A refusal is no count of bytes.
@@ -37,6 +40,11 @@ size_minus (suc k) = refl
 
 same_refusal : (k l : ℕ) → minus k ≡ minus l → k ≡ l
 same_refusal k l e = sym (size_minus k) ∙ ap nat_abs e ∙ size_minus l
+
+-- The number of a report is that of what the call hands back.
+pub text_by : (r : Result ℕ Refusal) → number_by r ≡ text_number (report_by r)
+text_by (Ok n) = refl
+text_by (Err f) = refl
 
 -- ---- the call with the table inside
 
@@ -97,9 +105,9 @@ module _ (t text text' : List ℕ) (q : ℤ) where
 
   by_answer : (a : Answer) → Told t a → Demands t table_words jobs_max (part_after a (replicate jobs_max 0)) (reply_to a) →
       q ≡ text_number (report_of t (length text) a) → text' ≡ text_after t a text → TextDemands t (length text) text' q
-  by_answer (refused number line field) n d e w =
-      let z : q ≡ minus number = rw (ne_eqb number 0 (λ y. omega (arith, n, y))) at e in
-      on_refused (refused number line field) d number n.0 (λ y. omega (arith, n, y)) refl (inr (omega (arith, n))) z
+  by_answer (refused f) n d e w =
+      let z : q ≡ minus (number_of f) = rw (ne_eqb (number_of f) 0 (λ y. omega (arith, n, y))) at e in
+      on_refused (refused f) d (number_of f) n.0 (λ y. omega (arith, n, y)) refl (inr (omega (arith, n))) z
   by_answer (found s i a o) n d e w =
       elim (dec_lt (length text) text_least) [
         | yes h ↦

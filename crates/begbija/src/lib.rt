@@ -1,6 +1,6 @@
 #![tactic(auto)]
 
-// The calls that the logger's firmware links; the crate begbija_c exports them to C.
+// The calls that the logger's firmware links, exported to C.
 ghost use Rattle.std.specs.Prelude.{◌≡◌, length};
 ghost use Rattle.measure.specs.Measure.{measure_of};
 ghost use Rattle.measure.specs.Meaning.{Meaning};
@@ -15,28 +15,35 @@ ghost use Rattle.c_values.specs.Values.{minus, reply_in, figures_of, measured_in
 ghost use Rattle.begbija.specs.Begbija.{text_number, need_number, TextDemands};
 
 // The bytes of plan text written, or minus the refusal.
-pub fn begbija_plan_text(sheet: &[u8], text: &mut [u8]) -> i64
+#[unsafe(no_mangle)]
+pub extern "C" fn begbija_plan_text(sheet: &[u8], text: &mut [u8]) -> i64
     ensures value { result ≡ text_number (report_of sheet.now (length text.old) (answer_in sheet.now)) }
     ensures text_after { text.new ≡ text_after sheet.now (answer_in sheet.now) text.old }
     ensures text_demands { TextDemands sheet.now (length text.old) text.new result }
 {
-    let r = report::write_plan(sheet, text);
-    c_values::count_or_refusal(r.refusal, r.length)
+    c_values::count_or_refusal(report::write_plan(sheet, text))
 }
 
 // 0 for a plan, or minus the refusal; the figures of either in `reply`.
-pub fn begbija_plan(sheet: &[u8], table: &mut [u32], levels: &mut [u8], reply: &mut [u64; 7]) -> i64
+#[unsafe(no_mangle)]
+pub extern "C" fn begbija_plan(
+    sheet: &[u8],
+    table: &mut [u32],
+    levels: &mut [u8],
+    reply: &mut [u64; 7],
+) -> i64
     ensures value { result ≡ minus (reply_in reply.new).refusal }
     ensures answers { Answers (answer_of sheet.now (length table.old) (length levels.old)) table.old table.new levels.old levels.new (reply_in reply.new) }
     ensures demands { Demands sheet.now (length table.old) (length levels.old) levels.new (reply_in reply.new) }
 {
     let r = planner::plan(sheet, table, levels);
     c_values::put_reply(r, reply);
-    c_values::count_or_refusal(r.refusal, 0)
+    c_values::count_or_refusal(r.and(Ok(0)))
 }
 
 // 0 for a plan of the jobs still to do after what is read, or minus the refusal; the figures of either in `reply`.
-pub fn begbija_plan_afresh(
+#[unsafe(no_mangle)]
+pub extern "C" fn begbija_plan_afresh(
     sheet: &[u8],
     done: u32,
     level: u32,
@@ -53,24 +60,25 @@ pub fn begbija_plan_afresh(
 {
     let a = afresh::plan_afresh(sheet, done, level, time, energy, temperature, table, levels);
     c_values::put_reply(a, reply);
-    c_values::count_or_refusal(a.refusal, 0)
+    c_values::count_or_refusal(a.and(Ok(0)))
 }
 
 // 0 for a list that was measured, or minus the refusal; the figures of either in `margins`.
-pub fn begbija_measure(sheet: &[u8], levels: &[u8], margins: &mut [i64; 6]) -> i64
+#[unsafe(no_mangle)]
+pub extern "C" fn begbija_measure(sheet: &[u8], levels: &[u8], margins: &mut [i64; 6]) -> i64
     ensures value { result ≡ minus (measure_of sheet.now levels.now).refusal }
     ensures margins_after { margins.new ≡ figures_of (measure_of sheet.now levels.now) }
     ensures meaning { Meaning sheet.now levels.now (measured_in margins.new) }
 {
     let m = measure::measure(sheet, levels);
     c_values::put_margins(m, margins);
-    c_values::count_or_refusal(m.refusal, 0)
+    c_values::count_or_refusal(m.and(Ok(0)))
 }
 
 // The words that a sheet needs, or minus its refusal of 1 to 6.
-pub fn begbija_need(sheet: &[u8]) -> i64
+#[unsafe(no_mangle)]
+pub extern "C" fn begbija_need(sheet: &[u8]) -> i64
     ensures { result ≡ need_number (words_of sheet.now) }
 {
-    let n = need::count_words(sheet);
-    c_values::count_or_refusal(n.refusal, n.words)
+    c_values::count_or_refusal(need::count_words(sheet))
 }

@@ -5,37 +5,48 @@ use mathlib.Core.Bool.{Bool, true, false, cond}
 use mathlib.Core.List.{List}
 use Prim.Native.Nat.{ℕ, zero, suc, ◌+◌, ◌*◌, ◌-◌, ◌≤◌, ◌<◌}
 use native.Mathlib.Omega.{arith}
-use lib.ListN.{length, drop}
-use Rattle.text.specs.Text.{until, beyond, ahead, part}
-use Rattle.text.specs.Line.{LineAt}
-use Rattle.text.specs.declared.Line.{Line}
-use Rattle.text.proofs.Scanned.{line_part, line_ahead, line_missing, line_beyond}
+use lib.ListN.{length, drop, length-drop}
+use lib.Seq.{drop-drop}
+use Rattle.std.specs.Prelude.{Option, Some, None, Result, Ok, Err}
+use Rattle.std.specs.Option.{option_map, option_map_or, is_some}
+use Rattle.std.proofs.lemmas.Option.{none-some}
+use Rattle.text.specs.Text.{until, beyond, ahead, next_line}
+use Rattle.text.proofs.Text.{line_some, line_none, beyond_drop, ahead_lt}
+use Rattle.fast_fields.specs.Take.{line_taken}
+use Rattle.fast_fields.proofs.Line.{line_at}
+use Rattle.fast_name_lines.specs.Name.{name_line_max}
 use Rattle.name_lines.specs.Name.{name_fault}
 use Rattle.fields.specs.declared.Fault.{Fault}
-use Rattle.fields.specs.declared.Fault.TheVariants.{Sound, Shape}
-use Rattle.fields.proofs.Within.{shapeless}
+use Rattle.fields.specs.declared.Fault.TheVariants.{Shape}
 use Rattle.name_lines.proofs.Name.{name_field}
+use Rattle.fields.proofs.Faults.{field_le}
 use Rattle.fields.specs.Fields.{after}
 use Rattle.lines.specs.Lines.{Found, block_from, found_in, Reads}
 use Rattle.line_kinds.specs.declared.Kind.TheVariants.{Level, Change, Work}
 use Rattle.lines.specs.declared.Stop.{Stop}
-use Rattle.fields.proofs.After.{Other, after_other}
 use Rattle.fields.proofs.Within.{cond_cases}
 use Rattle.fields.proofs.After.{after_cases}
 use Rattle.lines.proofs.Places.{Placed, block_placed}
-use Rattle.body.specs.declared.Named.{Named}
 use Rattle.store.specs.Store.{jobs_max, levels_max, store_size}
 use Rattle.body.specs.Body.{body_line, changes_line, jobs_line, end_line, onward, changes_from, jobs_from, body_from}
 use Rattle.body.specs.Naming.{NameRead}
 
 -- ---- going on or stopping
 
-module _ (f g : Found) (go : List ℕ → ℕ → List ℕ → Found) (e : f ≡ g) where
-  pub onward_stop : Other f.fault → f ≡ onward g go
-  onward_stop o = rw (← e) (sym (after_other f.fault f _ o))
+some_stops : {X : Type 0} (o : Option Fault) (stop go : X) → is_some o ≡ true → option_map_or (λ f. stop) o go ≡ stop
+some_stops None stop go h = absurd cc
+some_stops (Some f) stop go h = refl
 
-  pub onward_on : f.fault ≡ Sound → onward g go ≡ go f.rest f.line f.store
-  onward_on q = rw (← e, q) refl
+none_goes : (o : Option Fault) → is_some o ≡ false → o ≡ None
+none_goes None h = refl
+none_goes (Some f) h = absurd cc
+
+module _ (f g : Found) (go : List ℕ → ℕ → List ℕ → Found) (e : f ≡ g) where
+  pub onward_stop : is_some f.fault ≡ true → f ≡ onward g go
+  onward_stop o = rw (← e) (sym (some_stops f.fault f _ o))
+
+  pub onward_on : is_some f.fault ≡ false → onward g go ≡ go f.rest f.line f.store
+  onward_on q = rw (← e, none_goes f.fault q) refl
 
 -- ---- the S lines, those of p levels read
 
@@ -54,7 +65,7 @@ changes_none s at line l old h n k m =
     record { most = omega arith; few = h; early = n; within = k; lines = omega arith; long = m; rest = rw z refl }
 
 module _ {s : List ℕ} {at line l : ℕ} {old store : List ℕ} {a q p : ℕ} (g : Changes s at line l old store a q p) where
-  pub changes_all : l ≤ p → Reads s (changes_from l l 0 (drop at s) line old) (line + l * levels_max) store (record { fault = Sound; line = q; at = a })
+  pub changes_all : l ≤ p → Reads s (changes_from l l 0 (drop at s) line old) (line + l * levels_max) store (record { fault = None; line = q; at = a })
   unfolding changes_from
   changes_all h =
       let z : l - p ≡ 0 = omega arith in
@@ -64,7 +75,7 @@ module _ {s : List ℕ} {at line l : ℕ} {old store : List ℕ} {a q p : ℕ} (
     left : l - p ≡ suc (l - (p + 1))
     left = omega arith
 
-    pub changes_stop : Other b.fault → Reads s (changes_from l l 0 (drop at s) line old) (line + l * levels_max) new b
+    pub changes_stop : is_some b.fault ≡ true → Reads s (changes_from l l 0 (drop at s) line old) (line + l * levels_max) new b
     unfolding changes_from
     changes_stop o =
         record {
@@ -74,7 +85,7 @@ module _ {s : List ℕ} {at line l : ℕ} {old store : List ℕ} {a q p : ℕ} (
           long = r.long;
         }
 
-    pub changes_on : b.fault ≡ Sound → Changes s at line l old new b.at b.line (p + 1)
+    pub changes_on : is_some b.fault ≡ false → Changes s at line l old new b.at b.line (p + 1)
     unfolding changes_from
     changes_on f =
         record {
@@ -89,23 +100,47 @@ module _ {s : List ℕ} {at line l : ℕ} {old store : List ℕ} {a q p : ℕ} (
 
 -- ---- a line J
 
-module _ {s : List ℕ} {p : ℕ} {r : Line} (z : LineAt s p r) where
-  pub name_missing : r.end ≡ length s → p ≤ length s → NameRead s p (record { fault = Shape; next = p })
-  name_missing e h =
-      record { fault = rw (line_missing z (omega arith) h) refl; next = λ n. absurd (shapeless n); within = λ n. absurd (shapeless n) }
+module _ (s : List ℕ) (p : ℕ) where
+  pub name_missing : None ≡ next_line (drop p s) → NameRead s p (Err Shape)
+  name_missing e = record { fault = rw (line_none (drop p s) e) refl; next = tt }
 
-  pub name_read : r.end < length s → (f : Fault) → f ≡ name_fault (part p r.end s) → NameRead s p (record { fault = f; next = r.end + 1 })
-  name_read h f e =
-      record { fault = rw (line_ahead z h) (e ∙ ap name_fault (line_part z)); next = λ n. line_beyond z; within = λ n. omega arith }
+  module _ (bytes : List ℕ) (e : Some bytes ≡ next_line (drop p s)) where
+    pub name_wrong : (f : Fault) → Err f ≡ name_fault bytes → NameRead s p (Err f)
+    name_wrong f q = let l = line_some (drop p s) bytes e in record { fault = rw (l.ends, ← l.is) q; next = tt }
+
+    pub name_read : Ok tt ≡ name_fault bytes → NameRead s p (Ok (p + length bytes + 1))
+    name_read q =
+        let l = line_some (drop p s) bytes e in
+        let z : p + length bytes + 1 ≡ p + (length bytes + 1) = omega arith in
+        record {
+          fault = rw (l.ends, ← l.is) q;
+          next = rw z (l.next ∙ drop-drop (length bytes + 1) p s, omega (arith, l.long, length-drop p s));
+        }
+
+  -- A line J that is taken in one pass is read.
+  pub name_taken : (n : ℕ) → Some n ≡ option_map (λ line. line.1) (line_taken name_line_max name_fault (drop p s)) → NameRead s p (Ok (p + n))
+  name_taken n e = go (line_taken name_line_max name_fault (drop p s)) refl e
+    where
+      go : (o : Option (Unit {0} × ℕ)) → line_taken name_line_max name_fault (drop p s) ≡ o → Some n ≡ option_map (λ line. line.1) o → NameRead s p (Ok (p + n))
+      go None q k = absurd (none-some n (sym k))
+      go (Some x) q k =
+          let z = line_at name_line_max name_fault (drop p s) {a = x.0} {n = x.1} q in
+          let y : n ≡ x.1 = cc in
+          record {
+            fault = rw (z.ends, z.says) refl;
+            next = (beyond_drop 10 p s ∙ ap (λ (i : ℕ). drop i s) (omega (arith, y, z.size)), omega (arith, y, z.size, ahead_lt 10 (drop p s) z.ends, length-drop p s));
+          }
 
 -- The reading stops at its fault, and else goes on.
-name_stop : (b : Bool) (g f : Fault) (stop : Fault → Found) (go : Found) → f ≡ cond b g Shape → Other f → cond b (after g (stop g) go) (stop Shape) ≡ stop f
-name_stop true g f stop go e o = rw (← e) (after_other f (stop f) go o)
-name_stop false g f stop go e o = rw e refl
+name_stop : (b : Bool) (g : Result (Unit {0}) Fault) (f : Fault) (stop : Fault → Found) (go : Unit {0} → Found) → Err f ≡ cond b g (Err Shape) →
+    cond b (after g stop go) (stop Shape) ≡ stop f
+name_stop true g f stop go e = rw (← e) refl
+name_stop false g f stop go e = let q : f ≡ Shape = cc in rw q refl
 
-name_then : (b : Bool) (g f : Fault) (stop : Fault → Found) (go : Found) → f ≡ cond b g Shape → f ≡ Sound → cond b (after g (stop g) go) (stop Shape) ≡ go
-name_then true g f stop go e s = rw (← e, s) refl
-name_then false g f stop go e s = absurd (shapeless (sym e ∙ s))
+name_then : (b : Bool) (g : Result (Unit {0}) Fault) (u : Unit {0}) (stop : Fault → Found) (go : Unit {0} → Found) → Ok u ≡ cond b g (Err Shape) →
+    cond b (after g stop go) (stop Shape) ≡ go u
+name_then true g u stop go e = rw (← e) refl
+name_then false g u stop go e = absurd cc
 
 -- ---- the jobs' lines, those of i jobs read
 
@@ -124,42 +159,42 @@ jobs_none s at line l m old h n k o =
     record { most = omega arith; few = h; early = n; within = k; lines = omega arith; long = o; rest = rw z refl }
 
 module _ {s : List ℕ} {at line l m : ℕ} {old store : List ℕ} {a q i : ℕ} (g : Jobs s at line l m old store a q i) where
-  pub jobs_all : m ≤ i → Reads s (jobs_from l m 0 (drop at s) line old) (line + m * (levels_max + 1)) store (record { fault = Sound; line = q; at = a })
+  pub jobs_all : m ≤ i → Reads s (jobs_from l m 0 (drop at s) line old) (line + m * (levels_max + 1)) store (record { fault = None; line = q; at = a })
   unfolding jobs_from
   jobs_all h =
       let z : m - i ≡ 0 = omega arith in
       record { found = sym (rw z at g.rest); within = g.within; lines = omega (arith, g.lines, g.most); long = g.long }
 
-  module _ (h : i < m) (r : Named) (z : NameRead s a r) where
+  module _ (h : i < m) where
     -- Where the line J of job i has a fault, and what follows where it has none.
     abbrev halt : Fault → Found
-    halt f = record { fault = f; line = q; rest = drop a s; store = store }
+    halt f = record { fault = Some f; line = q; rest = drop a s; store = store }
 
-    abbrev work : Found
-    work = onward (block_from Work (i * levels_max) l 0 (beyond 10 (drop a s)) (q + 1) store) (jobs_from l (m - (i + 1)) (i + 1))
+    abbrev work : Unit {0} → Found
+    work name = onward (block_from Work (i * levels_max) l 0 (beyond 10 (drop a s)) (q + 1) store) (jobs_from l (m - (i + 1)) (i + 1))
 
-    step : jobs_from l m 0 (drop at s) line old ≡
-        cond (ahead 10 (drop a s)) (after (name_fault (until 10 (drop a s))) (halt (name_fault (until 10 (drop a s)))) work) (halt Shape)
+    step : jobs_from l m 0 (drop at s) line old ≡ cond (ahead 10 (drop a s)) (after (name_fault (until 10 (drop a s))) halt work) (halt Shape)
     unfolding jobs_from
     step = let remaining : m - i ≡ suc (m - (i + 1)) = omega arith in g.rest ∙ rw remaining refl
 
-    pub jobs_name : Other r.fault → Reads s (jobs_from l m 0 (drop at s) line old) (line + m * (levels_max + 1)) store (record { fault = r.fault; line = q; at = a })
-    jobs_name o =
+    pub jobs_name : (f : Fault) → NameRead s a (Err f) →
+        Reads s (jobs_from l m 0 (drop at s) line old) (line + m * (levels_max + 1)) store (record { fault = Some f; line = q; at = a })
+    jobs_name f z =
         record {
-          found = sym (step ∙ name_stop (ahead 10 (drop a s)) (name_fault (until 10 (drop a s))) r.fault halt work z.fault o);
+          found = sym (step ∙ name_stop (ahead 10 (drop a s)) (name_fault (until 10 (drop a s))) f halt work z.fault);
           within = g.within;
           lines = omega (arith, g.lines);
           long = g.long;
         }
 
-    module _ (sound : r.fault ≡ Sound) (new : List ℕ) (b : Stop) (w : Reads s (block_from Work (i * levels_max) l 0 (drop r.next s) (q + 1) store) (q + 1 + l) new b) where
-      next : jobs_from l m 0 (drop at s) line old ≡ onward (block_from Work (i * levels_max) l 0 (drop r.next s) (q + 1) store) (jobs_from l (m - (i + 1)) (i + 1))
+    module _ (after_name : ℕ) (z : NameRead s a (Ok after_name)) (new : List ℕ) (b : Stop) (w : Reads s (block_from Work (i * levels_max) l 0 (drop after_name s) (q + 1) store) (q + 1 + l) new b) where
+      next : jobs_from l m 0 (drop at s) line old ≡ onward (block_from Work (i * levels_max) l 0 (drop after_name s) (q + 1) store) (jobs_from l (m - (i + 1)) (i + 1))
       next =
           step
-          ∙ name_then (ahead 10 (drop a s)) (name_fault (until 10 (drop a s))) r.fault halt work z.fault sound
-          ∙ ap (λ (t : List ℕ). onward (block_from Work (i * levels_max) l 0 t (q + 1) store) (jobs_from l (m - (i + 1)) (i + 1))) (z.next sound)
+          ∙ name_then (ahead 10 (drop a s)) (name_fault (until 10 (drop a s))) tt halt work z.fault
+          ∙ ap (λ (t : List ℕ). onward (block_from Work (i * levels_max) l 0 t (q + 1) store) (jobs_from l (m - (i + 1)) (i + 1))) z.next.0
 
-      pub jobs_stop : Other b.fault → Reads s (jobs_from l m 0 (drop at s) line old) (line + m * (levels_max + 1)) new b
+      pub jobs_stop : is_some b.fault ≡ true → Reads s (jobs_from l m 0 (drop at s) line old) (line + m * (levels_max + 1)) new b
       jobs_stop o =
           record {
             found = onward_stop _ _ (jobs_from l (m - (i + 1)) (i + 1)) w.found o ∙ sym next;
@@ -168,7 +203,7 @@ module _ {s : List ℕ} {at line l m : ℕ} {old store : List ℕ} {a q i : ℕ}
             long = w.long;
           }
 
-      pub jobs_on : b.fault ≡ Sound → Jobs s at line l m old new b.at b.line (i + 1)
+      pub jobs_on : is_some b.fault ≡ false → Jobs s at line l m old new b.at b.line (i + 1)
       jobs_on c =
           record {
             most = omega arith;
@@ -184,7 +219,7 @@ module _ {s : List ℕ} {at line l m : ℕ} {old store : List ℕ} {a q i : ℕ}
 
 module _ (s : List ℕ) (at m l resistance : ℕ) (old : List ℕ) (few : l ≤ levels_max) (jobs : m ≤ jobs_max)
     {one : List ℕ} {a : Stop} (u : Reads s (block_from (Level resistance) 0 l 0 (drop at s) body_line old) (body_line + l) one a) where
-  pub body_levels : Other a.fault → Reads s (body_from m l resistance (drop at s) body_line old) end_line one a
+  pub body_levels : is_some a.fault ≡ true → Reads s (body_from m l resistance (drop at s) body_line old) end_line one a
   unfolding body_from
   body_levels o =
       record {
@@ -194,11 +229,11 @@ module _ (s : List ℕ) (at m l resistance : ℕ) (old : List ℕ) (few : l ≤ 
         long = u.long;
       }
 
-  module _ (sound : a.fault ≡ Sound) {two : List ℕ} {b : Stop} (v : Reads s (changes_from l l 0 (drop a.at s) a.line one) (a.line + l * levels_max) two b) where
+  module _ (sound : is_some a.fault ≡ false) {two : List ℕ} {b : Stop} (v : Reads s (changes_from l l 0 (drop a.at s) a.line one) (a.line + l * levels_max) two b) where
     chained : found_in s b two ≡ onward (block_from (Level resistance) 0 l 0 (drop at s) body_line old) (changes_from l l 0)
     chained = v.found ∙ sym (onward_on _ _ (changes_from l l 0) u.found sound)
 
-    pub body_changes : Other b.fault → Reads s (body_from m l resistance (drop at s) body_line old) end_line two b
+    pub body_changes : is_some b.fault ≡ true → Reads s (body_from m l resistance (drop at s) body_line old) end_line two b
     unfolding body_from
     body_changes o =
         record {
@@ -208,7 +243,7 @@ module _ (s : List ℕ) (at m l resistance : ℕ) (old : List ℕ) (few : l ≤ 
           long = v.long;
         }
 
-    pub body_jobs : b.fault ≡ Sound → {three : List ℕ} {c : Stop} → Reads s (jobs_from l m 0 (drop b.at s) b.line two) (b.line + m * (levels_max + 1)) three c →
+    pub body_jobs : is_some b.fault ≡ false → {three : List ℕ} {c : Stop} → Reads s (jobs_from l m 0 (drop b.at s) b.line two) (b.line + m * (levels_max + 1)) three c →
         Reads s (body_from m l resistance (drop at s) body_line old) end_line three c
     unfolding body_from
     body_jobs q w =
@@ -224,13 +259,17 @@ module _ (s : List ℕ) (at m l resistance : ℕ) (old : List ℕ) (few : l ≤ 
 -- Lines that stop at line a at the latest, and those after them, if they are sound.
 onward_placed : (a most : ℕ) (f : Found) (go : List ℕ → ℕ → List ℕ → Found) → a ≤ most → Placed a f →
     ((t : List ℕ) (ln : ℕ) (st : List ℕ) → ln ≤ a → Placed most (go t ln st)) → Placed most (onward f go)
-onward_placed a most f go h p q = after_cases (Placed most) f.fault f _ (λ o. omega (arith, p)) (λ s. q f.rest f.line f.store p.line)
+onward_placed a most f go h p q = go_on f.fault refl
+  where
+    go_on : (o : Option Fault) → f.fault ≡ o → Placed most (option_map_or (λ fault. f) o (go f.rest f.line f.store))
+    go_on None e = q f.rest f.line f.store p.line
+    go_on (Some fault) e = record { line = omega (arith, p.line); field = p.field }
 
 module _ (l : ℕ) (few : l ≤ levels_max) (most : ℕ) where
   -- The S lines of the next n levels left.
   changes_placed : (n p : ℕ) (t : List ℕ) (ln : ℕ) (st : List ℕ) → ln + n * levels_max ≤ most → Placed most (changes_from l n p t ln st)
   unfolding changes_from
-  changes_placed zero p t ln st h = omega arith
+  changes_placed zero p t ln st h = record { line = omega arith; field = omega arith }
   changes_placed (suc n) p t ln st h =
       onward_placed (ln + l) most _ _ (omega arith) (block_placed (Change p) (p * levels_max) l 0 t ln st)
       (λ u k store q. changes_placed n (p + 1) u k store (omega arith))
@@ -238,14 +277,14 @@ module _ (l : ℕ) (few : l ≤ levels_max) (most : ℕ) where
   -- The lines of the next n jobs.
   jobs_placed : (n i : ℕ) (t : List ℕ) (ln : ℕ) (st : List ℕ) → ln + n * (levels_max + 1) ≤ most → Placed most (jobs_from l n i t ln st)
   unfolding jobs_from
-  jobs_placed zero i t ln st h = omega arith
+  jobs_placed zero i t ln st h = record { line = omega arith; field = omega arith }
   jobs_placed (suc n) i t ln st h =
       let name = name_fault (until 10 t) in
       cond_cases (Placed most) (ahead 10 t) _ _
-      (λ a. after_cases (Placed most) name _ _ (λ o. omega (arith, name_field (until 10 t)))
-      (λ s. onward_placed (ln + 1 + l) most _ _ (omega arith) (block_placed Work (i * levels_max) l 0 (beyond 10 t) (ln + 1) st)
+      (λ a. after_cases (Placed most) name _ _ (λ f e. record { line = omega arith; field = field_le name f e (name_field (until 10 t)) })
+      (λ u e. onward_placed (ln + 1 + l) most _ _ (omega arith) (block_placed Work (i * levels_max) l 0 (beyond 10 t) (ln + 1) st)
       (λ u k store q. jobs_placed n (i + 1) u k store (omega arith))))
-      (λ a. omega arith)
+      (λ a. record { line = omega arith; field = omega arith })
 
 -- All of them, and bytes after them on the next line.
 pub body_placed : (m l resistance : ℕ) (t st : List ℕ) → m ≤ jobs_max → l ≤ levels_max → Placed end_line (body_from m l resistance t body_line st)

@@ -24,54 +24,35 @@ fn read_changes(s: &[u8], at: usize, line: usize, l: usize, store: &mut [u32]) -
 {
     let mut q = line;
     let mut a = at;
-    let mut p: usize = 0;
-    while p < l {
+    for p in 0..l {
         let b = lines::read_block(s, a, q, Kind::Change(p), p * LEVELS_MAX, l, store);
-        let f = b.fault;
-        let Fault::Sound = f else {
+        if b.fault.is_some() {
             return b;
-        };
+        }
         q = b.line;
         a = b.at;
-        p += 1;
     }
     Stop {
-        fault: Fault::Sound,
+        fault: None,
         line: q,
         at: a,
     }
 }
 
-// The fault of a line J or none, and then where the next line starts.
-#[derive(Drop)]
-struct Named {
-    fault: Fault,
-    next: usize,
-}
-
-// Reads the line J that starts at `at`.
-fn read_name(s: &[u8], at: usize) -> Named
+// Reads the line J that starts at `at`: where the next line starts.
+fn read_name(s: &[u8], at: usize) -> Result<usize, Fault>
     requires { at ≤ length s.now }
     ensures { NameRead s.now at result }
 {
-    let taken = fast_name_lines::take_name(s, at);
-    if at < taken {
-        return Named {
-            fault: Fault::Sound,
-            next: taken + 1,
-        };
+    let t = &s[at..];
+    if let Some(n) = fast_name_lines::take_name(t) {
+        return Ok(at + n);
     }
-    let n = text::scan_line(s, at);
-    let e = n.end;
-    if e == s.len() {
-        return Named {
-            fault: Fault::Shape,
-            next: at,
-        };
-    }
-    let tabs = n.tabs;
-    let fault = name_lines::check_name(s, at, e, tabs);
-    Named { fault, next: e + 1 }
+    let Some(line) = text::next_line(t) else {
+        return Err(Fault::Shape);
+    };
+    name_lines::check_name(line)?;
+    Ok(at + line.bytes.len() + 1)
 }
 
 // Reads the lines of m jobs of l levels from line `line`, which starts at `at`.
@@ -81,28 +62,26 @@ fn read_jobs(s: &[u8], at: usize, line: usize, l: usize, m: usize, store: &mut [
 {
     let mut q = line;
     let mut a = at;
-    let mut i: usize = 0;
-    while i < m {
-        let n = read_name(s, a);
-        let g = n.fault;
-        let Fault::Sound = g else {
-            return Stop {
-                fault: g,
-                line: q,
-                at: a,
-            };
+    for i in 0..m {
+        let next = match read_name(s, a) {
+            Ok(next) => next,
+            Err(fault) => {
+                return Stop {
+                    fault: Some(fault),
+                    line: q,
+                    at: a,
+                };
+            }
         };
-        let b = lines::read_block(s, n.next, q + 1, Kind::Work, i * LEVELS_MAX, l, store);
-        let f = b.fault;
-        let Fault::Sound = f else {
+        let b = lines::read_block(s, next, q + 1, Kind::Work, i * LEVELS_MAX, l, store);
+        if b.fault.is_some() {
             return b;
-        };
+        }
         q = b.line;
         a = b.at;
-        i += 1;
     }
     Stop {
-        fault: Fault::Sound,
+        fault: None,
         line: q,
         at: a,
     }
@@ -121,18 +100,12 @@ pub fn read_body(
     ensures { Reads s.now (body_from m l resistance (drop at s.now) body_line store.old) end_line store.new result }
 {
     let a = lines::read_block(s, at, BODY_LINE, Kind::Level(resistance), 0, l, store);
-    let f = a.fault;
-    let Fault::Sound = f else {
+    if a.fault.is_some() {
         return a;
-    };
-    let p = a.at;
-    let q = a.line;
-    let b = read_changes(s, p, q, l, store);
-    let g = b.fault;
-    let Fault::Sound = g else {
+    }
+    let b = read_changes(s, a.at, a.line, l, store);
+    if b.fault.is_some() {
         return b;
-    };
-    let d = b.at;
-    let e = b.line;
-    read_jobs(s, d, e, l, m, store)
+    }
+    read_jobs(s, b.at, b.line, l, m, store)
 }

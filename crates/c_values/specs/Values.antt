@@ -1,9 +1,11 @@
 -- What the logger's firmware gets as numbers (document 01, 'The logger's call and `plan`'): "a signed number: bytes written, or minus
 -- the refusal", and the figures of the planner's reply and of the measuring call, each in its place.
 -- Assumes nothing.
-use Rattle.std.specs.Prelude.{cond, List, [], ◌∷◌, ℕ, eqb, ℤ, pos, neg_ℤ, nat_abs, get_or}
-use Rattle.measure.specs.declared.Measured.{Measured}
-use Rattle.reply.specs.declared.Reply.{Reply}
+use Rattle.std.specs.Prelude.{cond, List, [], ◌∷◌, ℕ, eqb, ℤ, pos, neg_ℤ, nat_abs, get_or, Result, Ok, Err}
+use Rattle.refusal.specs.declared.Refusal.{Refusal}
+use Rattle.refusal.specs.Code.{number_of}
+use Rattle.measure.specs.Measure.{Measured}
+use Rattle.reply.specs.Reply.{Reply}
 
 -- "minus the refusal"; 0 where there is none.
 abbrev pub minus : ℕ → ℤ
@@ -12,6 +14,11 @@ minus refusal = neg_ℤ (pos refusal)
 -- What is counted, or minus the refusal: "bytes written, or minus the refusal".
 abbrev pub count_or_refusal : ℕ → ℕ → ℤ
 count_or_refusal refusal count = cond (eqb refusal 0) (pos count) (minus refusal)
+
+-- The same by what is handed back.
+abbrev pub number_by : Result ℕ Refusal → ℤ
+number_by (Ok count) = count_or_refusal 0 count
+number_by (Err f) = count_or_refusal (number_of f) 0
 
 -- The planner's reply, as the seven figures of `struct begbija_reply` hold it.
 abbrev pub reply_in : List ℕ → Reply

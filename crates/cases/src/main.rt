@@ -8,14 +8,12 @@
 // temperature. Its line has the note; of the measuring call the refusal's number, line and field and the three margins; the names
 // of jobs 0, 1 and 64; and twice, of the planner and of planning afresh, the refusal's number, line and field, the plan's time,
 // energy and final temperature, and what was left in memory: the bytes of the part as digits, and the table's words in one figure.
-ghost use Rattle.std.specs.Prelude.{◌<◌, ◌≤◌, length};
-ghost use Rattle.store.specs.Store.{jobs_max};
+ghost use Rattle.std.specs.Prelude.{◌<◌, ◌≤◌, length, IfSome};
 
-use measure::Measured;
-use numbers::Field;
-use reply::Reply;
+use refusal::Refusal;
+use reply::Totals;
+use std::fmt::Display;
 use std::io::{Read, Stdin};
-use std::num;
 use store::JOBS_MAX;
 use text::TAB;
 
@@ -23,52 +21,27 @@ use text::TAB;
 const TABLE_SIZE: usize = 16_384;
 
 // The largest figure of a reading.
-const FIGURE_MAX: usize = 4_294_967_295;
+const FIGURE_MAX: usize = u32::MAX as usize;
+
+// What ends each part of a case.
+const FORM_FEED: u8 = 12;
 
 type Table = [u32; TABLE_SIZE];
 
 type Part = [u8; JOBS_MAX];
 
+// The parts of a case.
+#[derive(Clone, Copy)]
+struct Case<'a> {
+    note: &'a [u8],
+    sheet: &'a [u8],
+    levels: &'a [u8],
+    numbers: &'a [u8],
+}
+
 // Writes bytes. Where they cannot be written, what is printed is not what is expected, which tells it.
 fn print_bytes(out: &impl Print, bytes: &[u8]) {
     let _ = out.write_all(bytes);
-}
-
-// Writes a number.
-fn print_decimal(out: &impl Print, n: u64) {
-    let _ = out.print(n);
-}
-
-// Writes a tab and a number.
-fn print_number(out: &impl Print, n: u64) {
-    print_bytes(out, b"\t");
-    print_decimal(out, n);
-}
-
-// Writes a tab and a signed number.
-fn print_signed(out: &impl Print, n: i64) {
-    if n < 0 {
-        print_bytes(out, b"\t-");
-        let k = -1 - n;
-        print_decimal(out, k as u64 + 1);
-    } else {
-        print_number(out, n as u64);
-    }
-}
-
-// Writes a refusal's number, line and field.
-fn print_three(out: &impl Print, number: u64, line: usize, field: usize) {
-    print_number(out, number);
-    print_number(out, line as u64);
-    print_number(out, field as u64);
-}
-
-// Writes what a measured list gives.
-fn print_measured(out: &impl Print, q: Measured) {
-    print_three(out, q.refusal as u64, q.line, q.field);
-    print_signed(out, q.time);
-    print_signed(out, q.energy);
-    print_signed(out, q.temperature);
 }
 
 // Writes a tab and the name of a job.
@@ -77,89 +50,51 @@ fn print_name(out: &impl Print, s: &[u8], i: usize) {
     print_bytes(out, names::job_name(s, i));
 }
 
-// Writes the planner's reply but for its peak, which document 01 leaves open.
-fn print_reply(out: &impl Print, q: Reply) {
-    print_three(out, q.refusal as u64, q.line, q.field);
-    print_number(out, q.time);
-    print_number(out, q.energy);
-    print_number(out, q.temperature);
+// Writes refusal 0, line 0, field 0 and three figures; or a refusal's number, line and field, and three figures 0.
+fn print_outcome<N: Display + Drop>(out: &impl Print, outcome: Result<[N; 3], Refusal>) {
+    let _ = match outcome {
+        Ok([a, b, c]) => print!(out; "\t0\t0\t0\t{a}\t{b}\t{c}"),
+        Err(f) => print!(out; "\t{}\t{}\t{}\t0\t0\t0", f.number(), f.line(), f.field()),
+    };
 }
 
 // Writes a tab and the part: a level as its digit, 9 for a byte that is not written.
 fn print_part(out: &impl Print, part: &Part) {
-    let mut digits = [0u8; JOBS_MAX];
-    let mut i: usize = 0;
-    while i < JOBS_MAX {
-        digits[i] = num::wrapping_add_u8(part[i], 48);
-        i += 1;
-    }
+    let digits = part.map(|level| level.wrapping_add(b'0'));
     print_bytes(out, b"\t");
     print_bytes(out, &digits);
-}
-
-fn wide(n: u32) -> u64 {
-    n as u64
 }
 
 // One figure for the whole table: each word counts once for each place from its own to the end. At most 2 ^ 60, so nothing wraps.
 fn weigh(table: &Table) -> u64 {
     let mut sum: u64 = 0;
     let mut weighed: u64 = 0;
-    let mut i: usize = 0;
-    while i < TABLE_SIZE {
-        sum = num::wrapping_add_u64(sum, wide(table[i]));
-        weighed = num::wrapping_add_u64(weighed, sum);
-        i += 1;
+    for &word in table {
+        sum = sum.wrapping_add(word as u64);
+        weighed = weighed.wrapping_add(sum);
     }
     weighed
 }
 
-// Writes a reply, and what the whole table and part hold after it.
-fn print_answer(out: &impl Print, q: Reply, table: &Table, part: &Part) {
-    print_reply(out, q);
+// Writes the planner's reply but for its peak, which document 01 leaves open, and what the whole table and part hold after it.
+fn print_answer(out: &impl Print, reply: Result<Totals, Refusal>, table: &Table, part: &Part) {
+    print_outcome(out, reply.map(|t| [t.time, t.energy, t.temperature]));
     print_part(out, part);
-    print_number(out, weigh(table));
+    let _ = print!(out; "\t{}", weigh(table));
 }
 
-// Plans a sheet with the first words of a table of zeros and the first bytes of a part that holds no levels.
-fn print_plan(out: &impl Print, s: &[u8], words: usize, bytes: usize)
-    requires { (words ≤ 16384) × (bytes ≤ jobs_max) }
-{
-    let mut table: Table = [0; TABLE_SIZE];
-    let mut part: Part = [9; JOBS_MAX];
-    let q = planner::plan(s, &mut table[..words], &mut part[..bytes]);
-    print_answer(out, q, &table, &part);
-}
-
-// Where the field at place i, from 0, starts in a part whose fields are parted by tabs: at its end where it has none.
-fn find_field(s: &[u8], i: usize) -> usize
-    ensures { result ≤ length s.now }
-{
-    let mut at: usize = 0;
-    let mut k: usize = 0;
-    while k < i {
-        let tab = text::find(s, at, s.len(), TAB);
-        if tab == s.len() {
-            return tab;
-        }
-        at = tab + 1;
-        k += 1;
-    }
-    at
-}
-
-// The number in the field at place i, at most `most`; 0 where it is none.
+// The number in the field at place i of a part whose fields are parted by tabs, at most `most`; 0 where there is none, which is what
+// every caller takes then.
 fn number_in(s: &[u8], i: usize, most: usize) -> usize
     ensures { result ≤ most }
 {
-    let f = numbers::read_number(s, find_field(s, i), s.len());
-    let Field::Number(n, _) = f else {
+    let Some(field) = s.split(|b| *b == TAB).nth(i) else {
         return 0;
     };
-    if n < most as u64 {
-        return n as usize;
+    match numbers::read_number(field) {
+        Some(number) => number.value.min(most as u64) as usize,
+        None => 0,
     }
-    most
 }
 
 // A figure of a reading.
@@ -167,19 +102,29 @@ fn figure_in(s: &[u8], i: usize) -> u32 {
     number_in(s, i, FIGURE_MAX) as u32
 }
 
-// Plans a sheet afresh from the reading in the numbers of a case, with memory as in `print_plan`.
-fn print_afresh(out: &impl Print, s: &[u8], numbers: &[u8], words: usize, bytes: usize)
-    requires { (words ≤ 16384) × (bytes ≤ jobs_max) }
-{
+// Plans a sheet with the first words of a table of zeros and the first bytes of a part that holds no levels.
+fn print_plan(out: &impl Print, case: Case) {
     let mut table: Table = [0; TABLE_SIZE];
     let mut part: Part = [9; JOBS_MAX];
-    let done = figure_in(numbers, 2);
-    let level = figure_in(numbers, 3);
-    let time = figure_in(numbers, 4);
-    let energy = figure_in(numbers, 5);
-    let temperature = figure_in(numbers, 6);
-    let q = afresh::plan_afresh(
-        s,
+    let words = number_in(case.numbers, 0, TABLE_SIZE);
+    let bytes = number_in(case.numbers, 1, JOBS_MAX);
+    let reply = planner::plan(case.sheet, &mut table[..words], &mut part[..bytes]);
+    print_answer(out, reply, &table, &part);
+}
+
+// Plans a sheet afresh from the reading in the numbers of a case, with memory as in `print_plan`.
+fn print_afresh(out: &impl Print, case: Case) {
+    let mut table: Table = [0; TABLE_SIZE];
+    let mut part: Part = [9; JOBS_MAX];
+    let words = number_in(case.numbers, 0, TABLE_SIZE);
+    let bytes = number_in(case.numbers, 1, JOBS_MAX);
+    let done = figure_in(case.numbers, 2);
+    let level = figure_in(case.numbers, 3);
+    let time = figure_in(case.numbers, 4);
+    let energy = figure_in(case.numbers, 5);
+    let temperature = figure_in(case.numbers, 6);
+    let reply = afresh::plan_afresh(
+        case.sheet,
         done,
         level,
         time,
@@ -188,62 +133,59 @@ fn print_afresh(out: &impl Print, s: &[u8], numbers: &[u8], words: usize, bytes:
         &mut table[..words],
         &mut part[..bytes],
     );
-    print_answer(out, q, &table, &part);
+    print_answer(out, reply, &table, &part);
 }
 
 // Writes the line of one case.
-fn print_case(out: &impl Print, note: &[u8], s: &[u8], levels: &[u8], numbers: &[u8]) {
-    print_bytes(out, note);
-    print_measured(out, measure::measure(s, levels));
-    print_name(out, s, 0);
-    print_name(out, s, 1);
-    print_name(out, s, JOBS_MAX);
-    let words = number_in(numbers, 0, TABLE_SIZE);
-    let bytes = number_in(numbers, 1, JOBS_MAX);
-    print_plan(out, s, words, bytes);
-    print_afresh(out, s, numbers, words, bytes);
+fn print_case(out: &impl Print, case: Case) {
+    print_bytes(out, case.note);
+    let margins = measure::measure(case.sheet, case.levels);
+    print_outcome(out, margins.map(|m| [m.time, m.energy, m.temperature]));
+    for i in [0, 1, JOBS_MAX] {
+        print_name(out, case.sheet, i);
+    }
+    print_plan(out, case);
+    print_afresh(out, case);
     print_bytes(out, b"\n");
 }
 
-// Runs the case that starts at `at`, and hands back where the next one starts: beyond the input where none does.
-fn run_case(out: &impl Print, s: &[u8], at: usize) -> usize
-    requires { at ≤ length s.now }
-    ensures { at < result }
+// Takes the part that ends at the next form feed off a text.
+fn take_part<'a>(text: &mut &'a [u8]) -> Option<&'a [u8]>
+    ensures { IfSome result (λ _. length text.new.now < length text.old.now) }
 {
-    let a = text::find(s, at, s.len(), 12);
-    if a == s.len() {
-        return a + 1;
-    }
-    let b = text::find(s, a + 1, s.len(), 12);
-    if b == s.len() {
-        return b + 1;
-    }
-    let c = text::find(s, b + 1, s.len(), 12);
-    if c == s.len() {
-        return c + 1;
-    }
-    let d = text::find(s, c + 1, s.len(), 12);
-    if d == s.len() {
-        return d + 1;
-    }
-    print_case(out, &s[at..a], &s[a + 1..b], &s[b + 1..c], &s[c + 1..d]);
-    d + 1
+    let all = *text;
+    let end = all.iter().position(|b| *b == FORM_FEED)?;
+    *text = &all[end + 1..];
+    Some(&all[..end])
 }
 
-// Reads until the input ends, reading fails or the buffer is full, and hands back how many bytes came.
+// Takes the next case off a text, if all of it is there.
+fn take_case<'a>(text: &mut &'a [u8]) -> Option<Case<'a>>
+    ensures { IfSome result (λ _. length text.new.now < length text.old.now) }
+{
+    let note = take_part(text)?;
+    let sheet = take_part(text)?;
+    let levels = take_part(text)?;
+    let numbers = take_part(text)?;
+    Some(Case {
+        note,
+        sheet,
+        levels,
+        numbers,
+    })
+}
+
+// Reads until the input ends, reading fails or the buffer is full, and hands back how many bytes came: any number at a time, so that
+// no range has the steps of the loop.
 fn read_input(stdin: &mut Stdin, input: &mut [u8]) -> usize
     ensures { result ≤ length input.new }
 {
     let mut n: usize = 0;
     while n < input.len() {
-        let got = stdin.read(&mut input[n..]);
-        let Ok(count) = got else {
-            return n;
-        };
-        if count == 0 {
-            break;
+        match stdin.read(&mut input[n..]) {
+            Ok(0) | Err(_) => break,
+            Ok(count) => n += count,
         }
-        n += count;
     }
     n
 }
@@ -251,9 +193,8 @@ fn read_input(stdin: &mut Stdin, input: &mut [u8]) -> usize
 fn main(rt: HostRuntime) {
     let mut input = [0u8; 262144];
     let n = read_input(&mut rt.stdin(), &mut input);
-    let s = &input[..n];
-    let mut at: usize = 0;
-    while at < s.len() {
-        at = run_case(&rt, s, at);
+    let mut rest = &input[..n];
+    while let Some(case) = take_case(&mut rest) {
+        print_case(&rt, case);
     }
 }

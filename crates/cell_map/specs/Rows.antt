@@ -3,6 +3,7 @@
 -- Assumes nothing.
 use Rattle.std.specs.Prelude.{cond, List, ℕ, ◌+◌, ◌*◌, ◌/◌, ◌%◌, ◌≤◌, ◌<◌, ltb, length, get_or}
 use Rattle.word.specs.Word.{far, near}
+use Rattle.cell_map.specs.declared.rows.Rows.{Rows}
 
 -- Word y of rows of `width` cells, by the map at place `map`: the word of the cell that it names in the row of the next job, whose
 -- rows begin at `next`; `far` where it names none.
@@ -26,8 +27,6 @@ pub record Leading (table : List ℕ) (map width n : ℕ) : Type 0 where
   pub beyond : (k : ℕ) → n ≤ k → k < width → width ≤ get_or table (map + k) 0
 
 -- The rows of the next job stand behind those that are written, and in the table.
-pub record Behind (table : List ℕ) (at rows width next : ℕ) : Type 0 where
-  pub rows_some : 1 ≤ rows
-  pub width_some : 1 ≤ width
-  pub behind : at + rows * width ≤ next
-  pub room : next + rows * width ≤ length table
+pub record Behind (table : List ℕ) (rows : Rows) (next : ℕ) : Type 0 where
+  pub behind : rows.at + rows.count * rows.width ≤ next
+  pub room : next + rows.count * rows.width ≤ length table

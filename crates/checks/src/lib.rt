@@ -2,10 +2,12 @@
 
 // The checks that follow the sheet's own: 7, 8 and 9 of what is lent, and 13, 14 and 5 of what is read.
 ghost use Rattle.std.specs.Prelude.{◌≡◌, List, ℕ, ◌-◌};
+ghost use Rattle.std.specs.Result.{result_err};
 ghost use Rattle.store.specs.Figures.{sheet_of};
 ghost use Rattle.run.specs.Run.{state_of};
 ghost use Rattle.checks.specs.Checks.{lack_of, fault_of};
 
+use refusal::Refusal;
 use run::Run;
 use store::{Head, LIMIT_MAX, TEMPERATURE_MAX};
 use table::WORDS_MAX;
@@ -14,49 +16,46 @@ use table::WORDS_MAX;
 pub fn jobs_left(jobs: u32, done: u32) -> usize
     ensures { result ≡ jobs - done }
 {
-    if jobs < done {
-        return 0;
-    }
-    (jobs - done) as usize
+    jobs.saturating_sub(done) as usize
 }
 
-// What is lacking of the memory lent, where n levels are to be written: 7, 8 or 9, or 0 for nothing.
-pub fn lack_of(need: usize, n: usize, words: usize, bytes: usize) -> u32
-    ensures { result ≡ lack_of need n words bytes }
+// Refuses memory that is lacking where n levels are to be written: 7, 8 or 9.
+pub fn check_memory(need: usize, n: usize, words: usize, bytes: usize) -> Result<(), Refusal>
+    ensures { result_err result ≡ lack_of need n words bytes }
 {
     if WORDS_MAX < need {
-        return 7;
+        return Err(Refusal::TableTooLarge);
     }
     if words < need {
-        return 8;
+        return Err(Refusal::TableShort);
     }
     if bytes < n {
-        return 9;
+        return Err(Refusal::PartShort);
     }
-    0
+    Ok(())
 }
 
-// What is wrong with a reading: 13, 14 or 5, or 0 for nothing.
-pub fn fault_of(head: Head, a: Run) -> u32
-    ensures { (store : List ℕ) → result ≡ fault_of (sheet_of head store) (state_of a) }
+// Refuses a reading that no plan goes on from: 13, 14 or 5.
+pub fn check_reading(head: Head, a: Run) -> Result<(), Refusal>
+    ensures { (store : List ℕ) → result_err result ≡ fault_of (sheet_of head store) (state_of a) }
 {
     if head.jobs <= a.done {
-        return 13;
+        return Err(Refusal::AllDone);
     }
     if head.levels <= a.level {
-        return 14;
+        return Err(Refusal::ReadingRange);
     }
     if (LIMIT_MAX as u64) < a.time {
-        return 14;
+        return Err(Refusal::ReadingRange);
     }
     if (LIMIT_MAX as u64) < a.energy {
-        return 14;
+        return Err(Refusal::ReadingRange);
     }
     if (TEMPERATURE_MAX as u64) < a.temperature {
-        return 14;
+        return Err(Refusal::ReadingRange);
     }
     if (head.temperature_limit as u64) < a.temperature {
-        return 5;
+        return Err(Refusal::ReadingHot);
     }
-    0
+    Ok(())
 }

@@ -9,18 +9,17 @@ use native.Mathlib.Omega.{arith}
 use lib.ListN.{length, drop}
 use Rattle.frame.specs.Sheet.{Sheet, Ranges}
 use Rattle.frame.specs.Run.{State, start}
-use Rattle.frame.specs.Demands.{Best, end_time, Keeps, Figures, figures}
+use Rattle.frame.specs.Demands.{Best, end_time, Figures, figures}
 use Rattle.frame.specs.Plan.{outcome}
 use Rattle.frame.specs.Afresh.{InRange, Readable, jobs_left, tightened_left, Kept}
-use Rattle.frame.specs.Table.{need}
 use Rattle.frame.proofs.Afresh.{left_demand2, left_demand3, spent_keeps, late_keeps, kept_readable, kept_rest}
-use Rattle.sheet.specs.Reading.{reading_of, sheet_in}
+use Rattle.sheet.specs.Reading.{sheet_in}
 use Rattle.checks.specs.Checks.{fault_of}
 use Rattle.checks.proofs.Checks.{fault_cases}
-use Rattle.reply.specs.declared.Reply.{Reply}
-use Rattle.reply.specs.Answer.{Answer, found_from, refused_reply, Answers}
+use Rattle.reply.specs.Reply.{Reply, refused_reply}
+use Rattle.reply.specs.Answer.{Answer, found_from, Answers}
 use Rattle.demands.specs.Order.{unless, afresh_for, afresh_to, afresh_of}
-use Rattle.demands.specs.Demands.{Enough, Memory, Demand3}
+use Rattle.demands.specs.Demands.{Enough, Demand3}
 use Rattle.demands.specs.Afresh.{Passed, LeftDemands, AfreshDemands}
 use Rattle.demands.proofs.Demands.{unlooked, on_found, Lacks, memory_enough, lack_split, by_reading}
 

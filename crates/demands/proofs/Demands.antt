@@ -16,18 +16,18 @@ use Rattle.frame.specs.Plan.{frame_outcome}
 use Rattle.frame.specs.Table.{need, words_max}
 use Rattle.frame.proofs.Demand3.{frame_demand2, frame_demand3}
 use Rattle.refusal.specs.declared.Refusal.{Refusal}
-use Rattle.refusal.specs.declared.Refusal.TheVariants.{Nothing}
-use Rattle.refusal.specs.Code.{number_of, line_of, field_of, accepted}
+use Rattle.refusal.specs.Code.{number_of, line_of, field_of}
 use Rattle.refusal.proofs.Apart.{accepted_refused}
 use Rattle.sheet.specs.Reading.{reading_of, sheet_in}
 use Rattle.sheet.proofs.Ranges.{read_ranges}
 use Rattle.checks.specs.Checks.{lack_of}
 use Rattle.checks.proofs.Checks.{lack_cases}
-use Rattle.reply.specs.declared.Reply.{Reply}
-use Rattle.reply.specs.Answer.{Answer, refused, found, refused_reply, planned_as, Answers}
+use Rattle.reply.specs.Reply.{Reply, refused_reply, planned_as}
+use Rattle.reply.specs.Answer.{Answer, refused, found, Answers}
+use Rattle.std.specs.Prelude.{Option, Some, None}
 use Rattle.reply.proofs.Peak.{peak_between}
-use Rattle.demands.specs.Order.{frame_found, unless, answer_for, turned_away, answer_by, answer_to, answer_of}
-use Rattle.demands.specs.Demands.{Enough, Memory, Fixed, Demand3, FrameDemands, Demands}
+use Rattle.demands.specs.Order.{frame_found, unless, answer_for, answer_by, answer_to, answer_of}
+use Rattle.demands.specs.Demands.{Enough, Memory, Demand3, FrameDemands, Demands}
 
 module _ {s : Sheet} {k : Limits} {n : ℕ} {a : State} {passed : Type 0} {part : List ℕ} {r : Reply} where
   -- ---- refused before looking: nothing is said of a plan
@@ -206,14 +206,12 @@ on_frame s ok n words words' bytes bytes' r a =
 
 -- A sheet is refused for the first check of 1 to 6 that it fails, or else answered by its figures.
 pub by_reading : (sheet : List ℕ) (answer : Sheet → Answer) {words words' bytes bytes' : List ℕ} {r : Reply} → Answers (answer_by (reading_of sheet) answer) words words' bytes bytes' r →
-    let f = (reading_of sheet).refusal in
-    (¬ (f ≡ Nothing) → r ≡ refused_reply (number_of f) (line_of f) (field_of f)) × (f ≡ Nothing → Ranges (sheet_in sheet) × Answers (answer (sheet_in sheet)) words words' bytes bytes' r)
+    ((f : Refusal) → (reading_of sheet).refusal ≡ Some f → r ≡ refused_reply (number_of f) (line_of f) (field_of f)) ×
+    ((reading_of sheet).refusal ≡ None → Ranges (sheet_in sheet) × Answers (answer (sheet_in sheet)) words words' bytes bytes' r)
 unfolding answer_by
 by_reading sheet answer {words} {words'} {bytes} {bytes'} {r} a = (
-  λ h.
-      let b : Answers (refused (number_of (reading_of sheet).refusal) (line_of (reading_of sheet).refusal) (field_of (reading_of sheet).refusal)) words words' bytes bytes' r = rw (accepted_refused (reading_of sheet).refusal turned_away _ h) at a in
-      b.reply,
-  λ e. (read_ranges sheet e, rw (ap (λ (f : Refusal). accepted f turned_away (answer (sheet_in sheet))) e) at a),
+  λ f h. let b : Answers (refused f) words words' bytes bytes' r = rw (accepted_refused refused (answer (sheet_in sheet)) h) at a in b.reply,
+  λ e. (read_ranges sheet e, rw (ap (λ (o : Option Refusal). unless o (answer (sheet_in sheet))) e) at a),
 )
 
 pub demands_hold : (sheet words words' bytes bytes' : List ℕ) (r : Reply) →

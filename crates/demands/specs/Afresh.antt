@@ -1,16 +1,15 @@
 -- The demands on a frame planned afresh after a job (document 02, W1), in words. What the table and the part hold besides is said by the
 -- equations of `reply`.
 -- Assumes nothing.
-use Rattle.std.specs.Prelude.{◌↔◌, ◌⊎◌, ◌≡◌, List, ℕ, ◌≤◌, ◌<◌}
+use Rattle.std.specs.Prelude.{Some, None, ◌↔◌, ◌⊎◌, ◌≡◌, List, ℕ, ◌≤◌, ◌<◌}
 use Rattle.frame.specs.Sheet.{Sheet}
 use Rattle.frame.specs.Run.{State, start}
 use Rattle.frame.specs.Demands.{Best, end_time}
 use Rattle.frame.specs.Afresh.{InRange, Readable, jobs_left, tightened_left, Kept}
-use Rattle.refusal.specs.declared.Refusal.TheVariants.{Nothing}
+use Rattle.refusal.specs.declared.Refusal.{Refusal}
 use Rattle.refusal.specs.Code.{number_of, line_of, field_of}
 use Rattle.sheet.specs.Reading.{reading_of, sheet_in}
-use Rattle.reply.specs.declared.Reply.{Reply}
-use Rattle.reply.specs.Answer.{refused_reply}
+use Rattle.reply.specs.Reply.{Reply, refused_reply}
 use Rattle.demands.specs.Demands.{Enough, Memory, Demand3}
 
 -- None of the refusals before 10 applies.
@@ -42,5 +41,5 @@ pub record LeftDemands (s : Sheet) (a : State) (words bytes : ℕ) (part : List 
 -- For every sequence of bytes offered as a sheet, and every reading.
 pub record AfreshDemands (sheet : List ℕ) (a : State) (words bytes : ℕ) (part : List ℕ) (r : Reply) : Type 0 where
   -- a sheet that fails one of checks 1 to 6 is refused for the first that it fails
-  pub fails : ¬ ((reading_of sheet).refusal ≡ Nothing) → let f = (reading_of sheet).refusal in r ≡ refused_reply (number_of f) (line_of f) (field_of f)
-  pub passes : (reading_of sheet).refusal ≡ Nothing → LeftDemands (sheet_in sheet) a words bytes part r
+  pub fails : (f : Refusal) → (reading_of sheet).refusal ≡ Some f → r ≡ refused_reply (number_of f) (line_of f) (field_of f)
+  pub passes : (reading_of sheet).refusal ≡ None → LeftDemands (sheet_in sheet) a words bytes part r

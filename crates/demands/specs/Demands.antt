@@ -1,17 +1,16 @@
 -- The demands of the request on the planner's reply and on the list that the part holds, in words. What the table and the part
 -- hold besides is said by the equations of `reply`, from which these words follow: `proofs/Demands.antt`.
 -- Assumes nothing.
-use Rattle.std.specs.Prelude.{◌↔◌, ◌≡◌, List, ℕ, ◌≤◌, ◌<◌, take}
+use Rattle.std.specs.Prelude.{Some, None, ◌↔◌, ◌≡◌, List, ℕ, ◌≤◌, ◌<◌, take}
 use Rattle.frame.specs.Sheet.{Sheet, Between}
 use Rattle.frame.specs.Run.{State, start, exact, exact_run}
 use Rattle.frame.specs.Limits.{Limits, Meets, limits, tightened}
 use Rattle.frame.specs.Demands.{LevelList, Keeps, Best, Tight, end_time, figures}
 use Rattle.frame.specs.Table.{need, words_max}
-use Rattle.refusal.specs.declared.Refusal.TheVariants.{Nothing}
+use Rattle.refusal.specs.declared.Refusal.{Refusal}
 use Rattle.refusal.specs.Code.{number_of, line_of, field_of}
 use Rattle.sheet.specs.Reading.{reading_of, sheet_in}
-use Rattle.reply.specs.declared.Reply.{Reply}
-use Rattle.reply.specs.Answer.{refused_reply}
+use Rattle.reply.specs.Reply.{Reply, refused_reply}
 
 -- None of 7, 8 and 9 applies where n levels are to be written: the table's size is allowed, and what is lent is enough.
 pub record Enough (s : Sheet) (n words bytes : ℕ) : Type 0 where
@@ -69,5 +68,5 @@ pub record FrameDemands (s : Sheet) (words bytes : ℕ) (part : List ℕ) (r : R
 -- For every sequence of bytes offered as a sheet.
 pub record Demands (sheet : List ℕ) (words bytes : ℕ) (part : List ℕ) (r : Reply) : Type 0 where
   -- a sheet that fails one of checks 1 to 6 is refused for the first that it fails
-  pub fails : ¬ ((reading_of sheet).refusal ≡ Nothing) → let f = (reading_of sheet).refusal in r ≡ refused_reply (number_of f) (line_of f) (field_of f)
-  pub passes : (reading_of sheet).refusal ≡ Nothing → FrameDemands (sheet_in sheet) words bytes part r
+  pub fails : (f : Refusal) → (reading_of sheet).refusal ≡ Some f → r ≡ refused_reply (number_of f) (line_of f) (field_of f)
+  pub passes : (reading_of sheet).refusal ≡ None → FrameDemands (sheet_in sheet) words bytes part r

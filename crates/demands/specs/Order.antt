@@ -2,7 +2,7 @@
 -- first. .. Then 6, 7, 8, 9, 10", and of a frame planned afresh after a job (document 02, W1), "New, after 9: 13 .. 14 .. then that 5,
 -- then 10".
 -- Assumes nothing.
-use Rattle.std.specs.Prelude.{List, ℕ, zero, suc}
+use Rattle.std.specs.Prelude.{List, ℕ, Option}
 use Rattle.frame.specs.Sheet.{Sheet}
 use Rattle.frame.specs.Run.{State, start}
 use Rattle.frame.specs.Plan.{frame_outcome}
@@ -10,7 +10,7 @@ use Rattle.frame.specs.Afresh.{jobs_left}
 use Rattle.frame.specs.Table.{need}
 use Rattle.store.specs.Figures.{sheet_of}
 use Rattle.refusal.specs.declared.Refusal.{Refusal}
-use Rattle.refusal.specs.Code.{number_of, line_of, field_of, accepted}
+use Rattle.refusal.specs.Code.{accepted}
 use Rattle.sheet.specs.Reading.{SheetRead, reading_of}
 use Rattle.checks.specs.Checks.{lack_of, fault_of}
 use Rattle.reply.specs.Answer.{Answer, refused, found, found_from}
@@ -19,10 +19,9 @@ use Rattle.reply.specs.Answer.{Answer, refused, found, found_from}
 abbrev pub frame_found : Sheet → Answer
 frame_found s = found s s.jobs (start s) (frame_outcome s)
 
--- A check's refusal with line and field "0, 0"; where its number is 0, what comes after it.
-abbrev pub unless : ℕ → Answer → Answer
-unless zero after = after
-unless (suc k) after = refused (suc k) 0 0
+-- A check's refusal, and where there is none, what comes after it.
+abbrev pub unless : Option Refusal → Answer → Answer
+unless o after = accepted o refused after
 
 -- The answer for a sheet's own frame: 7, 8, 9, and what is found.
 unfoldable pub answer_for : Sheet → ℕ → ℕ → Answer
@@ -33,13 +32,9 @@ answer_for s words bytes = unless (lack_of (need s) s.jobs words bytes) (frame_f
 unfoldable pub afresh_for : Sheet → State → ℕ → ℕ → Answer
 afresh_for s a words bytes = unless (lack_of (need s) (jobs_left s a) words bytes) (unless (fault_of s a) (found_from s a))
 
--- A sheet's refusal of 1 to 6, with what document 01 returns for it.
-abbrev pub turned_away : Refusal → Answer
-turned_away f = refused (number_of f) (line_of f) (field_of f)
-
 -- The answer to a sheet that was read: the refusal, or what is answered for its figures.
 unfoldable pub answer_by : SheetRead → (Sheet → Answer) → Answer
-answer_by r answer = accepted r.refusal turned_away (answer (sheet_of r.head r.store))
+answer_by r answer = unless r.refusal (answer (sheet_of r.head r.store))
 
 -- The answer to a sheet that was read, with a table of so many words and a part of so many bytes.
 unfoldable pub answer_to : SheetRead → ℕ → ℕ → Answer

@@ -8,87 +8,50 @@ use Prim.Native.Nat.{ℕ, zero, suc, ◌+◌, ◌≤◌, ◌<◌, ◌^◌}
 use native.Mathlib.Decide.{ℕ_discrete}
 use native.Mathlib.Omega.{arith}
 use lib.Dec.{eqb, leb, ltb}
-use lib.ListN.{length, get_or, set, replicate, drop, length-drop}
+use lib.ListN.{length, get_or, drop}
 use borrow.Author.Tests.{le-leb, leb-true, le-ltb, ltb-false, eq-eqb, ne_eqb, eqb-true}
-use Rattle.text.specs.Text.{before, until, beyond, ahead, count, all}
+use Rattle.std.specs.Prelude.{Option, Some, None, Result, Ok, Err}
+use Rattle.std.specs.Option.{option_map, option_and_then}
+use Rattle.text.specs.Text.{before, until, ahead, count, all}
 use Rattle.text.proofs.Text.{before_byte, until_byte, until_hit, until_pass, count_ahead, drop_here, length_until, lt_ahead, all_none, all_on}
-use Rattle.text.proofs.Tests.{clash, cond_true, not_so}
+use Rattle.text.proofs.Tests.{clash, cond_true}
 use Rattle.numbers.specs.Number.{is_number, value_from}
-use Rattle.fields.specs.Fields.{Fields, opens, numbers_from, fields_of}
+use Rattle.fields.specs.Fields.{Fields, after, opens, numbers_from, fields_of}
 use Rattle.fields.specs.declared.Fault.{Fault}
-use Rattle.fields.specs.declared.Fault.TheVariants.{Sound, Shape, Form, Range}
+use Rattle.fields.specs.declared.Fault.TheVariants.{Shape}
+use Rattle.fields.specs.declared.Range.{Range}
 use Rattle.fields.proofs.Fields.{opens_before, opens_letter, opens_tabs}
-use Rattle.fields.proofs.Within.{faulty, malformed, shapeless, passed}
-use Rattle.fast_fields.specs.Take.{taken_at, is_sound, starts, is_taken}
-use Rattle.fast_fields.specs.declared.Taken.TheVariants.{Other}
+use Rattle.fast_fields.specs.Take.{taken, starts, line_taken, ShortRanges}
 use Rattle.fast_fields.proofs.Onward.{all_count, Onward, onward, first_field, one_field}
-use Rattle.fast_fields.proofs.Number.{number_all, number_few, Short, NumberAt, taken_so}
-
--- ---- what is taken
-
-pub sound_is : (f : Fault) → is_sound f ≡ true → f ≡ Sound
-sound_is Sound e = refl
-sound_is Shape e = let z = clash (sym e) in absurd (omega arith)
-sound_is (Form k) e = let z = clash (sym e) in absurd (omega arith)
-sound_is (Range k) e = let z = clash (sym e) in absurd (omega arith)
-
--- The text has its room at place p, and a line ends there and has no fault.
-pub record SoundAt (s : List ℕ) (p room : ℕ) (fault : List ℕ → Fault) : Type 0 where
-  pub within : p + room ≤ length s
-  pub ends : ahead 10 (drop p s) ≡ true
-  pub sound : fault (until 10 (drop p s)) ≡ Sound
-
-module _ (s : List ℕ) (p room : ℕ) (fault : List ℕ → Fault) where
-  pub sound_at : is_taken s p room fault ≡ true → SoundAt s p room fault
-  unfolding is_taken
-  sound_at e =
-      let a = cond_true (leb (p + room) (length s)) _ e in
-      let b = cond_true (ahead 10 (drop p s)) _ a.1 in
-      record { within = leb-true _ _ a.0; ends = b.0; sound = sound_is _ b.1 }
-
-  pub sound_taken : SoundAt s p room fault → is_taken s p room fault ≡ true
-  unfolding is_taken
-  sound_taken z = rw (le-leb _ _ z.within, z.ends, z.sound) refl
+use Rattle.fast_fields.proofs.Number.{number_all, number_few, Short, NumberAt, taken_so, taken_number}
 
 -- ---- the letter
 
--- From place p on the text s has `room` more bytes, and the first of them are the letter and a byte 9.
-pub record Starts (s : List ℕ) (p letter room : ℕ) : Type 0 where
-  pub within : p + room ≤ length s
-  pub first : get_or s p 0 ≡ letter
-  pub second : get_or s (p + 1) 0 ≡ 9
+-- The text t has `room` bytes, and the first of them are the letter and a byte 9.
+pub record Starts (letter room : ℕ) (t : List ℕ) : Type 0 where
+  pub within : room ≤ length t
+  pub first : get_or t 0 0 ≡ letter
+  pub second : get_or t 1 0 ≡ 9
 
-module _ (s : List ℕ) (p letter room : ℕ) where
-  pub starts_is : starts s p letter room ≡ true → Starts s p letter room
+module _ (letter room : ℕ) (t : List ℕ) where
+  pub starts_is : starts letter room t ≡ true → Starts letter room t
   unfolding starts
   starts_is e =
-      let a = cond_true (leb (p + room) (length s)) _ e in
-      let b = cond_true (eqb (get_or s p 0) letter) _ a.1 in
+      let a = cond_true (leb room (length t)) _ e in
+      let b = cond_true (eqb (get_or t 0 0) letter) _ a.1 in
       record { within = leb-true _ _ a.0; first = eqb-true _ _ b.0; second = eqb-true _ _ b.1 }
 
-  pub starts_so : Starts s p letter room → starts s p letter room ≡ true
-  unfolding starts
-  starts_so z = rw (le-leb _ _ z.within, eq-eqb _ _ z.first, eq-eqb _ _ z.second) refl
-
-  pub starts_not : (Starts s p letter room → ⊥) → false ≡ starts s p letter room
-  starts_not n = sym (not_so _ (λ e. n (starts_is e)))
-
-  -- Where the room and the letter are there, the byte behind it decides.
-  pub starts_second : p + room ≤ length s → get_or s p 0 ≡ letter → eqb (get_or s (p + 1) 0) 9 ≡ starts s p letter room
-  unfolding starts
-  starts_second l f = rw (le-leb _ _ l, eq-eqb _ _ f) refl
-
   -- A line that opens with the letter and has fields behind it starts so.
-  pub opens_starts : (k : ℕ) → 0 < k → p + room ≤ length s → opens letter k (until 10 (drop p s)) ≡ true → starts s p letter room ≡ true
+  pub opens_starts : (k : ℕ) → 0 < k → room ≤ length t → opens letter k (until 10 t) ≡ true → starts letter room t ≡ true
+  unfolding starts
   opens_starts k h l e =
-      let line = until 10 (drop p s) in
+      let line = until 10 t in
       let one = opens_before letter k line e in
       let two = count_ahead 9 line (omega (arith, opens_tabs letter k line e)) in
-      let n = length_until 10 (drop p s) in
-      let z : p + 0 ≡ p = omega arith in
-      let a = ap (λ (i : ℕ). get_or s i 0) (sym z) ∙ sym (until_byte 10 p s 0 (omega arith)) ∙ opens_letter letter k line e in
-      let b = sym (until_byte 10 p s 1 (omega arith)) ∙ ap (λ (i : ℕ). get_or line i 0) (sym one) ∙ before_byte 9 line two in
-      starts_so (record { within = l; first = a; second = b })
+      let n = length_until 10 t in
+      let a = sym (until_byte 10 0 t 0 (omega arith)) ∙ opens_letter letter k line e in
+      let b = sym (until_byte 10 0 t 1 (omega arith)) ∙ ap (λ (i : ℕ). get_or line i 0) (sym one) ∙ before_byte 9 line two in
+      rw (le-leb _ _ l, eq-eqb _ _ a, eq-eqb _ _ b) refl
 
 eqb_suc : (a b : ℕ) → eqb (suc a) (suc b) ≡ eqb a b
 eqb_suc a b =
@@ -97,83 +60,60 @@ eqb_suc a b =
       | no n ↦ ne_eqb (suc a) (suc b) (λ e. n (omega arith)) ∙ sym (ne_eqb a b n)
     ]
 
-module _ {s : List ℕ} {from letter room : ℕ} (z : Starts s from letter room) (high : 65 ≤ letter) (two : 2 ≤ room) where
+module _ {letter room : ℕ} {t : List ℕ} (z : Starts letter room t) (high : 65 ≤ letter) (two : 2 ≤ room) where
   -- Its first field is the letter.
-  one_letter : until 9 (drop from s) ≡ letter ∷ []
+  one_letter : until 9 t ≡ letter ∷ []
   one_letter =
       let l = z.within in
       let f = z.first in
-      let a = ap (until 9) (drop_here s from (omega arith)) ∙ until_pass 9 (get_or s from 0) (drop (from + 1) s) (λ w. omega arith) in
-      let b = ap (until 9) (drop_here s (from + 1) (omega arith)) ∙ until_hit 9 (get_or s (from + 1) 0) (drop (from + 1 + 1) s) z.second in
+      let a = ap (until 9) (drop_here t 0 (omega arith)) ∙ until_pass 9 (get_or t 0 0) (drop 1 t) (λ w. omega arith) in
+      let b = ap (until 9) (drop_here t 1 (omega arith)) ∙ until_hit 9 (get_or t 1 0) (drop 2 t) z.second in
       a ∙ rw (b, f) refl
 
-  one_before : before 9 (drop from s) ≡ 1
-  one_before = sym (length_until 9 (drop from s)) ∙ ap length one_letter
+  one_before : before 9 t ≡ 1
+  one_before = sym (length_until 9 t) ∙ ap length one_letter
 
-  pub starts_onward : Onward s from (from + 2)
+  pub starts_onward : Onward t 2
   starts_onward =
-      let l = z.within in
-      onward letter letter (omega arith) s from (from + 2)
+      onward letter letter (omega arith) t 2
       (ap (all letter letter) one_letter ∙ all_on letter letter letter [] (omega arith) (omega arith) ∙ all_none letter letter)
-      (lt_ahead 9 (drop from s) (omega (arith, one_before, length-drop from s))) (omega (arith, one_before))
+      (lt_ahead 9 t (omega (arith, one_before, z.within))) (omega (arith, one_before))
 
   -- The line's count of fields says whether it opens so.
-  pub starts_opens : (k : ℕ) → opens letter (suc k) (until 10 (drop from s)) ≡ eqb (count 9 (until 10 (drop (from + 2) s))) k
+  pub starts_opens : (k : ℕ) → opens letter (suc k) (until 10 t) ≡ eqb (count 9 (until 10 (drop 2 t))) k
   unfolding opens
   starts_opens k =
       let o = starts_onward in
-      let line = until 10 (drop from s) in
+      let line = until 10 t in
       let a : before 9 line ≡ 1 = sym (length_until 9 line) ∙ ap length o.field ∙ ap length one_letter in
-      let y : from + 0 ≡ from = omega arith in
-      let f : get_or line 0 0 ≡ letter = until_byte 10 from s 0 (omega (arith, o.end)) ∙ rw y z.first in
-      rw (eq-eqb _ _ a, eq-eqb _ _ f, o.tabs) (eqb_suc (count 9 (until 10 (drop (from + 2) s))) k)
+      let f : get_or line 0 0 ≡ letter = until_byte 10 0 t 0 (omega (arith, o.end)) ∙ z.first in
+      rw (eq-eqb _ _ a, eq-eqb _ _ f, o.tabs) (eqb_suc (count 9 (until 10 (drop 2 t))) k)
 
 -- ---- numbers
-
--- A line that cannot be opened, as `fields_of` has it.
-abbrev shut : Fields
-shut = record { fault = Shape; values = replicate 10 0; rest = [] }
 
 -- The byte that ends a number with n numbers behind it in its line.
 abbrev pub stop_at : ℕ → ℕ
 stop_at zero = 10
 stop_at (suc n) = 9
 
--- Of the line at `from`, which has the letter and k numbers, the numbers before number j are taken, with values vs; it goes on at
--- place p with that number and n more.
-pub record Taking (s : List ℕ) (from letter k : ℕ) (los his : List ℕ) (n j p : ℕ) (vs : List ℕ) : Type 0 where
-  pub ends : ahead 10 (drop from s) ≡ ahead 10 (drop p s)
-  pub end : from + before 10 (drop from s) ≡ p + before 10 (drop p s)
-  pub fields : fields_of letter k los his (until 10 (drop from s))
-      ≡ cond (eqb (count 9 (until 10 (drop p s))) n) (numbers_from los his (suc n) j (until 10 (drop p s)) vs) shut
+-- Numbers that were taken, and how many bytes they have with the bytes behind them.
+abbrev pub Taken : Type 0
+Taken = Option (List ℕ × ℕ)
 
-pub taking_none : {s : List ℕ} {from letter room : ℕ} (los his : List ℕ) (n : ℕ) → Starts s from letter room → 65 ≤ letter → 2 ≤ room →
-    Taking s from letter (suc n) los his n 0 (from + 2) (replicate 10 0)
-unfolding fields_of
-taking_none los his n z high two =
-    let o = starts_onward z high two in
-    record { ends = o.ends; end = o.end; fields = rw (starts_opens z high two n, o.rest) refl }
+-- One number more, of k digits, before those that are taken behind it.
+abbrev pub joined : ℕ → ℕ → Taken → Taken
+joined v k r = option_map (λ x. (v ∷ x.0, k + 1 + x.1)) r
 
-shut_not : (b : Bool) (fields : Fields) → (cond b fields shut).fault ≡ Sound → (b ≡ true) × (fields.fault ≡ Sound)
-shut_not true fields e = (refl, e)
-shut_not false fields e = absurd (shapeless e)
+-- The numbers that are taken of the text t, one behind the other.
+unfoldable pub numbers_taken : List Range → List ℕ → Taken
+numbers_taken [] t = Some ([], 0)
+numbers_taken (range ∷ ranges) t =
+    option_and_then (λ x. joined x.0 x.1 (numbers_taken ranges (drop (x.1 + 1) t))) (taken (stop_at (length ranges)) range t)
 
--- A sound line of a letter and numbers starts with them.
-pub fields_starts : (s : List ℕ) (p letter room n : ℕ) (los his : List ℕ) → p + room ≤ length s →
-    (fields_of letter (suc n) los his (until 10 (drop p s))).fault ≡ Sound → starts s p letter room ≡ true
-unfolding fields_of
-fields_starts s p letter room n los his l e =
-    opens_starts s p letter room (suc n) (omega arith) l (shut_not (opens letter (suc n) (until 10 (drop p s))) _ e).0
-
--- The first of the numbers of a sound line has at most 8 digits, where its range ends below 10 ^ 8.
-first_short : (los his : List ℕ) (n j : ℕ) (line vs : List ℕ) → get_or his j 0 < 10 ^ 8 → (numbers_from los his (suc n) j line vs).fault ≡ Sound →
-    Short (get_or los j 0) (get_or his j 0) (until 9 line)
-unfolding numbers_from
-first_short los his n j line vs h e =
-    let v = value_from 0 (until 9 line) in
-    let p = passed (is_number (until 9 line)) (ltb v (get_or los j 0)) (ltb (get_or his j 0) v) _ _ _ (malformed (j + 2)) (faulty (j + 2)) e in
-    let l : v ≤ get_or his j 0 = ltb-false _ _ p.2 in
-    record { form = p.0; few = number_few 8 (omega arith) _ p.0 (omega arith); low = ltb-false _ _ p.1; high = l }
+-- What the rest t of a line says of a number in the range, number j, and of those behind it, and how many bytes it has.
+abbrev rest_says : Range → List Range → ℕ → List ℕ → Taken
+rest_says range ranges j t =
+    cond (ahead 10 t) (cond (eqb (count 9 (until 10 t)) (length ranges)) (after (numbers_from (range ∷ ranges) j (until 10 t)) (λ f. None) (λ n. Some (n.values, before 10 t + 1))) None) None
 
 -- Of a line with n bytes 9, the first field and the byte that ends it.
 first_stop : (n : ℕ) (t : List ℕ) → ahead 10 t ≡ true → count 9 (until 10 t) ≡ n →
@@ -181,41 +121,159 @@ first_stop : (n : ℕ) (t : List ℕ) → ahead 10 t ≡ true → count 9 (until
 first_stop zero t a c = (a, sym (one_field (until 10 t) c))
 first_stop (suc n) t a c = let f = first_field t (omega arith) in (lt_ahead 9 t f.1, f.0)
 
-module _ {s : List ℕ} {from letter k : ℕ} {los his : List ℕ} {j p : ℕ} {vs : List ℕ} where
+-- A text of which a number is taken gives no other answer.
+none_some : {X : Type 0} {x : X} {o : Option X} → o ≡ Some x → o ≡ None → ⊥
+none_some {X} {x} {o} a b = let z : ◌≡◌ {A = Option X} (Some x) None = sym a ∙ b in let n : ◌≡◌ {A = ℕ} 0 1 = cc in omega arith
+
+module _ (range : Range) (ranges : List Range) (j : ℕ) (t : List ℕ) where
+  -- Where the next number is not taken, the line is not sound.
+  rest_none : range.most < 10 ^ 8 → taken (stop_at (length ranges)) range t ≡ None → rest_says range ranges j t ≡ None
+  unfolding numbers_from
+  rest_none h e = lines (ahead 10 t) (eqb (count 9 (until 10 t)) (length ranges)) refl refl
+    where
+      line : List ℕ
+      line = until 10 t
+
+      v : ℕ
+      v = value_from 0 (until 9 line)
+
+      says : Result Fields Fault → Taken
+      says r = after r (λ f. None) (λ n. Some (n.values, before 10 t + 1))
+
+      go : (a b c : Bool) → is_number (until 9 line) ≡ a → ltb v range.least ≡ b → ltb range.most v ≡ c →
+          (ahead (stop_at (length ranges)) t ≡ true) × (until (stop_at (length ranges)) t ≡ until 9 line) → (r : Result Fields Fault) (f g : Fault) →
+          says (cond a (cond b (Err f) (cond c (Err f) r)) (Err g)) ≡ None
+      go true false false a b c y r f g =
+          let m : v ≤ range.most = ltb-false _ _ c in
+          let s : Short range (until 9 line) = record { form = a; few = number_few 8 (omega arith) _ a (omega arith); low = ltb-false _ _ b; high = m } in
+          absurd (none_some (taken_so _ range t y.0 (rw y.1 s)) e)
+      go true false true a b c y r f g = refl
+      go true true c a b d y r f g = refl
+      go false b c a d k y r f g = refl
+
+      lines : (a b : Bool) → ahead 10 t ≡ a → eqb (count 9 line) (length ranges) ≡ b → cond a (cond b (says (numbers_from (range ∷ ranges) j line)) None) None ≡ None
+      lines true true a b =
+          go (is_number (until 9 line)) (ltb v range.least) (ltb range.most v) refl refl refl (first_stop (length ranges) t a (eqb-true _ _ b)) _ _ _
+      lines true false a b = refl
+      lines false b a c = refl
+
+module _ (range : Range) (j : ℕ) (t : List ℕ) {v k : ℕ} where
+  -- The last number ends the line.
+  rest_last : NumberAt 10 range t v k → rest_says range [] j t ≡ Some (v ∷ [], k + 1)
+  unfolding numbers_from
+  rest_last z =
+      let f = z.short in
+      let c = all_count 48 57 (omega arith) _ (number_all _ f.form) in
+      rw (z.stops, c, one_field _ c, f.form, le-ltb _ _ f.low, le-ltb _ _ f.high, ← z.value, ← z.size) refl
+
   -- One number more.
-  pub taking_more : {n v e : ℕ} → Taking s from letter k los his (suc n) j p vs → NumberAt s p 9 (get_or los j 0) (get_or his j 0) v e →
-      Taking s from letter k los his n (j + 1) (e + 1) (set vs j v)
+  rest_more : (next : Range) (ranges : List Range) → NumberAt 9 range t v k →
+      rest_says range (next ∷ ranges) j t ≡ joined v k (rest_says next ranges (j + 1) (drop (k + 1) t))
   unfolding numbers_from
-  taking_more {n} {v} {e} t z =
+  rest_more next ranges z =
       let f = z.short in
-      let o = onward 48 57 (omega arith) s p (e + 1) (number_all _ f.form) z.stops (omega (arith, z.end)) in
-      record {
-        ends = t.ends ∙ o.ends;
-        end = t.end ∙ o.end;
-        fields = t.fields
-            ∙ rw (o.tabs, eqb_suc (count 9 (until 10 (drop (e + 1) s))) n, o.field, f.form, le-ltb _ _ f.low, le-ltb _ _ f.high, o.rest, ← z.value) refl;
-      }
+      let u = drop (k + 1) t in
+      let o = onward 48 57 (omega arith) t (k + 1) (number_all _ f.form) z.stops (omega (arith, z.size)) in
+      rw (o.ends, o.tabs, eqb_suc (count 9 (until 10 u)) (length ranges), o.field, f.form, le-ltb _ _ f.low, le-ltb _ _ f.high, o.rest, ← z.value)
+      (go (ahead 10 u) (eqb (count 9 (until 10 u)) (length ranges)) (numbers_from (next ∷ ranges) (j + 1) (until 10 u)) _ _ (omega (arith, o.end)))
+    where
+      go : (a b : Bool) (r : Result Fields Fault) (m n : ℕ) → m ≡ k + 1 + n →
+          cond a (cond b (after (after {X = Result Fields Fault} r Err (λ n. Ok (record { values = v ∷ n.values; rest = n.rest }))) (λ f. None) (λ n. Some (n.values, m))) None) None
+          ≡ joined v k (cond a (cond b (after r (λ f. None) (λ x. Some (x.values, n))) None) None)
+      go true true (Ok x) m n e = rw e refl
+      go true true (Err f) m n e = refl
+      go true false r m n e = refl
+      go false b r m n e = refl
 
-  -- The last number, and with it the line.
-  pub taking_last : {v e : ℕ} → Taking s from letter k los his 0 j p vs → NumberAt s p 10 (get_or los j 0) (get_or his j 0) v e →
-      (ahead 10 (drop from s) ≡ true) × (e ≡ from + before 10 (drop from s))
-      × (fields_of letter k los his (until 10 (drop from s)) ≡ record { fault = Sound; values = set vs j v; rest = beyond 9 (until 10 (drop p s)) })
-  unfolding numbers_from
-  taking_last t z =
-      let f = z.short in
-      let c = all_count 48 57 (omega arith) _ (number_all _ f.form) in (
-        t.ends ∙ z.stops,
-        omega (arith, z.end, t.end),
-        t.fields ∙ rw (c, one_field _ c, f.form, le-ltb _ _ f.low, le-ltb _ _ f.high, ← z.value) refl,
-      )
+-- The numbers of a line are taken where the line is sound.
+rest_taken : (range : Range) (ranges : List Range) (j : ℕ) (t : List ℕ) → ShortRanges (range ∷ ranges) →
+    numbers_taken (range ∷ ranges) t ≡ rest_says range ranges j t
+unfolding numbers_taken
+rest_taken range [] j t h = go (taken 10 range t) refl
+  where
+    go : (o : Option (ℕ × ℕ)) → taken 10 range t ≡ o → option_and_then (λ x. joined x.0 x.1 (Some ([], 0))) o ≡ rest_says range [] j t
+    go None e = sym (rest_none range [] j t h.0 e)
+    go (Some x) e = let z : x.1 + 1 + 0 ≡ x.1 + 1 = omega arith in rw z (sym (rest_last range j t (taken_number 10 range t x.0 x.1 e)))
+rest_taken range (next ∷ ranges) j t h = go (λ k. rest_taken next ranges (j + 1) (drop (k + 1) t) h.1) (taken 9 range t) refl
+  where
+    go : ((k : ℕ) → numbers_taken (next ∷ ranges) (drop (k + 1) t) ≡ rest_says next ranges (j + 1) (drop (k + 1) t)) →
+        (o : Option (ℕ × ℕ)) → taken 9 range t ≡ o →
+        option_and_then (λ x. joined x.0 x.1 (numbers_taken (next ∷ ranges) (drop (x.1 + 1) t))) o ≡ rest_says range (next ∷ ranges) j t
+    go r None e = sym (rest_none range (next ∷ ranges) j t h.0 e)
+    go r (Some x) e = ap (joined x.0 x.1) (r x.1) ∙ sym (rest_more range j t next ranges (taken_number 9 range t x.0 x.1 e))
 
-  -- A sound line has the next number.
-  pub taking_other : {n : ℕ} → Taking s from letter k los his n j p vs → get_or his j 0 < 10 ^ 8 →
-      taken_at s p (stop_at n) (get_or los j 0) (get_or his j 0) ≡ Other → ahead 10 (drop from s) ≡ true →
-      (fields_of letter k los his (until 10 (drop from s))).fault ≡ Sound → ⊥
-  taking_other {n} t h e a sound =
-      let w = shut_not (eqb (count 9 (until 10 (drop p s))) n) _ (ap (λ (r : Fields). r.fault) (sym t.fields) ∙ sound) in
-      let f = first_stop n (drop p s) (sym t.ends ∙ a) (eqb-true _ _ w.0) in
-      let q = taken_so s p (stop_at n) (get_or los j 0) (get_or his j 0) f.0 (rw f.1 (first_short los his n j _ vs h w.1)) in
-      let c : ◌≡◌ {A = ℕ} 0 1 = cc in
-      omega arith
+-- ---- whole lines
+
+-- The next line of the text t, of n bytes with its byte 10, is sound and says a, as `read` has it.
+pub record LineAt {A : Type 0} (room : ℕ) (read : List ℕ → Result A Fault) (t : List ℕ) (a : A) (n : ℕ) : Type 0 where
+  pub within : room ≤ length t
+  pub ends : ahead 10 t ≡ true
+  pub says : read (until 10 t) ≡ Ok a
+  pub size : n ≡ before 10 t + 1
+
+module _ {A : Type 0} (room : ℕ) (read : List ℕ → Result A Fault) (t : List ℕ) where
+  pub line_takes : {a : A} {n : ℕ} → LineAt room read t a n → line_taken room read t ≡ Some (a, n)
+  unfolding line_taken
+  line_takes z = rw (le-leb _ _ z.within, z.ends, z.says, z.size) refl
+
+  pub line_left : ((a : A) → LineAt room read t a (before 10 t + 1) → ⊥) → line_taken room read t ≡ None
+  unfolding line_taken
+  line_left n = go (leb room (length t)) (ahead 10 t) (read (until 10 t)) refl refl refl
+    where
+      go : (a b : Bool) (r : Result A Fault) → leb room (length t) ≡ a → ahead 10 t ≡ b → read (until 10 t) ≡ r →
+          ◌≡◌ {A = Option (A × ℕ)} (cond a (cond b (after r (λ f. None) (λ x. Some (x, before 10 t + 1))) None) None) None
+      go true true (Ok x) a b e = absurd (n x (record { within = leb-true _ _ a; ends = b; says = e; size = refl }))
+      go true true (Err f) a b e = refl
+      go true false r a b e = refl
+      go false b r a c e = refl
+
+  pub line_at : {a : A} {n : ℕ} → line_taken room read t ≡ Some (a, n) → LineAt room read t a n
+  unfolding line_taken
+  line_at {a} {n} = go (leb room (length t)) (ahead 10 t) (read (until 10 t)) refl refl refl
+    where
+      go : (b c : Bool) (r : Result A Fault) → leb room (length t) ≡ b → ahead 10 t ≡ c → read (until 10 t) ≡ r →
+          ◌≡◌ {A = Option (A × ℕ)} (cond b (cond c (after r (λ f. None) (λ x. Some (x, before 10 t + 1))) None) None) (Some (a, n)) → LineAt room read t a n
+      go true true (Ok x) b c e q =
+          let p : ◌≡◌ {A = A × ℕ} (x, before 10 t + 1) (a, n) = cc in
+          record {
+            within = leb-true _ _ b;
+            ends = c;
+            says = e ∙ ap (λ (y : A × ℕ). Ok y.0) p;
+            size = sym (ap (λ (y : A × ℕ). y.1) p);
+          }
+      go true true (Err f) b c e q = absurd (none_some q refl)
+      go true false r b c e q = absurd (none_some q refl)
+      go false c r b d e q = absurd (none_some q refl)
+
+-- A line of a letter and numbers is taken where it starts so and its numbers are taken.
+module _ (letter room : ℕ) (range : Range) (ranges : List Range) (t : List ℕ) where
+  opened : {a : List ℕ} → fields_of letter (range ∷ ranges) (until 10 t) ≡ Ok a → opens letter (length (range ∷ ranges)) (until 10 t) ≡ true
+  unfolding fields_of
+  opened = go (opens letter (length (range ∷ ranges)) (until 10 t)) _
+    where
+      go : {a : List ℕ} (b : Bool) (r : Result (List ℕ) Fault) → ◌≡◌ {A = Result (List ℕ) Fault} (cond b r (Err Shape)) (Ok a) → b ≡ true
+      go true r e = refl
+      go false r e = let n : ◌≡◌ {A = ℕ} 0 1 = cc in absurd (omega arith)
+
+  pub line_unstarted : starts letter room t ≡ false → line_taken room (fields_of letter (range ∷ ranges)) t ≡ None
+  line_unstarted e =
+      line_left room (fields_of letter (range ∷ ranges)) t (λ a z.
+      let n : ◌≡◌ {A = ℕ} 0 1 = clash (sym (opens_starts letter room t _ (omega arith) z.within (opened z.says)) ∙ e) in
+      omega arith)
+
+  pub line_numbers : Starts letter room t → 65 ≤ letter → 2 ≤ room → ShortRanges (range ∷ ranges) →
+      line_taken room (fields_of letter (range ∷ ranges)) t ≡ option_map (λ x. (x.0, 2 + x.1)) (numbers_taken (range ∷ ranges) (drop 2 t))
+  unfolding line_taken fields_of
+  line_numbers z high two h =
+      let u = drop 2 t in
+      let o = starts_onward z high two in
+      rw (le-leb _ _ z.within, o.ends, starts_opens z high two (length ranges), o.rest, rest_taken range ranges 0 u h)
+      (go (ahead 10 u) (eqb (count 9 (until 10 u)) (length ranges)) (numbers_from (range ∷ ranges) 0 (until 10 u)) _ _ (omega (arith, o.end)))
+    where
+      go : (a b : Bool) (r : Result Fields Fault) (m n : ℕ) → m ≡ 2 + n →
+          cond a (after {X = Option (List ℕ × ℕ)} (cond b (after {X = Result (List ℕ) Fault} r Err (λ n. Ok n.values)) (Err Shape)) (λ f. None) (λ x. Some (x, m))) None
+          ≡ option_map (λ x. (x.0, 2 + x.1)) (cond a (cond b (after {X = Option (List ℕ × ℕ)} r (λ f. None) (λ x. Some (x.values, n))) None) None)
+      go true true (Ok x) m n e = rw e refl
+      go true true (Err f) m n e = refl
+      go true false r m n e = refl
+      go false b r m n e = refl

@@ -10,7 +10,7 @@ use lib.Dec.{leb}
 use lib.ListN.{length, drop, length-drop}
 use borrow.Author.Tests.{leb-true}
 use Rattle.text.specs.Text.{before, until, beyond, ahead, count, all}
-use Rattle.text.proofs.Text.{before_none, before_hit, before_pass, until_none, until_hit, until_pass, beyond_hit, beyond_pass, count_none, count_hit, count_pass, ahead_lt, beyond_drop}
+use Rattle.text.proofs.Text.{before_none, before_hit, before_pass, until_none, until_hit, until_pass, beyond_hit, beyond_pass, count_none, count_hit, count_pass, ahead_lt}
 use Rattle.text.proofs.Tests.{cond_true, ltb_same}
 
 -- The first byte of a range, and the others.
@@ -27,13 +27,13 @@ record Parted (t : List ℕ) : Type 0 where
   rest : beyond 9 (until 10 t) ≡ until 10 (beyond 9 t)
   tabs : count 9 (until 10 t) ≡ suc (count 9 (until 10 (beyond 9 t)))
 
--- The line of the text s that starts at place p, or a rest of it, goes on at place q behind its first field.
-pub record Onward (s : List ℕ) (p q : ℕ) : Type 0 where
-  pub ends : ahead 10 (drop p s) ≡ ahead 10 (drop q s)
-  pub end : p + before 10 (drop p s) ≡ q + before 10 (drop q s)
-  pub field : until 9 (until 10 (drop p s)) ≡ until 9 (drop p s)
-  pub rest : beyond 9 (until 10 (drop p s)) ≡ until 10 (drop q s)
-  pub tabs : count 9 (until 10 (drop p s)) ≡ suc (count 9 (until 10 (drop q s)))
+-- The next line of the text t, or a rest of it, goes on behind its first field, n bytes on.
+pub record Onward (t : List ℕ) (n : ℕ) : Type 0 where
+  pub ends : ahead 10 t ≡ ahead 10 (drop n t)
+  pub end : before 10 t ≡ n + before 10 (drop n t)
+  pub field : until 9 (until 10 t) ≡ until 9 t
+  pub rest : beyond 9 (until 10 t) ≡ until 10 (drop n t)
+  pub tabs : count 9 (until 10 t) ≡ suc (count 9 (until 10 (drop n t)))
 
 -- Bytes from lo to hi, above 9 and 10.
 module _ (lo hi : ℕ) (high : 10 < lo) where
@@ -74,23 +74,19 @@ module _ (lo hi : ℕ) (high : 10 < lo) where
             }
       ]
 
-  pub onward : (s : List ℕ) (p q : ℕ) → all lo hi (until 9 (drop p s)) ≡ true → ahead 9 (drop p s) ≡ true →
-      q ≡ p + before 9 (drop p s) + 1 → Onward s p q
-  unfolding ahead
-  onward s p q a b e =
-      let h = ahead_lt 9 (drop p s) b in
-      let z = parted (drop p s) a h in
-      let d = beyond_drop 9 p s ∙ ap (λ (i : ℕ). drop i s) (sym e) in
-      let n : before 10 (drop p s) ≡ suc (before 9 (drop p s)) + before 10 (drop q s) =
-      z.end ∙ ap (λ (x : List ℕ). suc (before 9 (drop p s)) + before 10 x) d in
-      record {
-        ends = ltb_same (before 10 (drop p s)) (length (drop p s)) (before 10 (drop q s)) (length (drop q s))
-            (λ x. omega (arith, length-drop p s, length-drop q s)) (λ x. omega (arith, length-drop p s, length-drop q s));
-        end = omega arith;
+  pub onward : (t : List ℕ) (n : ℕ) → all lo hi (until 9 t) ≡ true → ahead 9 t ≡ true → n ≡ suc (before 9 t) → Onward t n
+  unfolding ahead beyond
+  onward t n a b e =
+      let h = ahead_lt 9 t b in
+      let z = parted t a h in
+      rw e (record {
+        ends = ltb_same (before 10 t) (length t) (before 10 (drop (suc (before 9 t)) t)) (length (drop (suc (before 9 t)) t))
+            (λ x. omega (arith, z.end, length-drop (suc (before 9 t)) t)) (λ x. omega (arith, z.end, length-drop (suc (before 9 t)) t));
+        end = z.end;
         field = z.field;
-        rest = z.rest ∙ ap (until 10) d;
-        tabs = z.tabs ∙ ap (λ (x : List ℕ). suc (count 9 (until 10 x))) d;
-      }
+        rest = z.rest;
+        tabs = z.tabs;
+      })
 
 -- Where the next line of the text t has a byte 9, its first field is that of the text.
 pub first_field : (t : List ℕ) → 0 < count 9 (until 10 t) → (until 9 t ≡ until 9 (until 10 t)) × (before 9 t < length t)

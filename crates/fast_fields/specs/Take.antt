@@ -1,37 +1,36 @@
 -- What is taken in one pass over its bytes: a number, the start of a line, a sound line.
 -- Assumes nothing.
-use Rattle.std.specs.Prelude.{Bool, true, false, cond, List, ℕ, ◌+◌, eqb, leb, length, get_or, drop}
-use Rattle.text.specs.Text.{until, ahead}
+use Rattle.std.specs.Prelude.{Bool, false, cond, List, [], ◌∷◌, ℕ, ◌+◌, ◌<◌, ◌^◌, eqb, leb, length, get_or, Option, Some, None, Result}
+use Rattle.text.specs.Text.{before, until, ahead}
 use Rattle.numbers.specs.Number.{is_number, value_from}
+use Rattle.fields.specs.Fields.{after}
 use Rattle.fields.specs.declared.Fault.{Fault}
-use Rattle.fields.specs.declared.Fault.TheVariants.{Sound, Shape, Form, Range}
-use Rattle.fast_fields.specs.declared.Taken.{Taken}
-use Rattle.fast_fields.specs.declared.Taken.TheVariants.{Number, Other}
+use Rattle.fields.specs.declared.Range.{Range}
 
--- A number from lo to hi of at most 8 digits.
-unfoldable pub is_short : ℕ → ℕ → List ℕ → Bool
-is_short lo hi t =
+-- A number in the range, of at most 8 digits.
+unfoldable pub is_short : Range → List ℕ → Bool
+is_short range t =
     let v : ℕ = value_from 0 t in
-    cond (is_number t) (cond (leb (length t) 8) (cond (leb lo v) (leb v hi) false) false) false
+    cond (is_number t) (cond (leb (length t) 8) (cond (leb range.least v) (leb v range.most) false) false) false
 
--- What is taken of the text s at place p: the bytes before the next byte `stop`, where there is one and they are such a number,
--- with the place of that byte.
-unfoldable pub taken_at : List ℕ → ℕ → ℕ → ℕ → ℕ → Taken
-taken_at s p stop lo hi =
-    let t : List ℕ = until stop (drop p s) in
-    cond (ahead stop (drop p s)) (cond (is_short lo hi t) (Number (value_from 0 t) (p + length t)) Other) Other
+-- What is taken of the text t: the bytes before its first byte `stop`, where there is one and they are such a number; the number,
+-- and how many digits it has.
+unfoldable pub taken : ℕ → Range → List ℕ → Option (ℕ × ℕ)
+taken stop range t =
+    let digits : List ℕ = until stop t in
+    cond (ahead stop t) (cond (is_short range digits) (Some (value_from 0 digits, length digits)) None) None
 
--- No fault.
-abbrev pub is_sound : Fault → Bool
-is_sound Sound = true
-is_sound Shape = false
-is_sound (Form f) = false
-is_sound (Range f) = false
+-- The text has `room` bytes, and the first of them are the letter and a byte 9.
+unfoldable pub starts : ℕ → ℕ → List ℕ → Bool
+starts letter room t = cond (leb room (length t)) (cond (eqb (get_or t 0 0) letter) (eqb (get_or t 1 0) 9) false) false
 
--- From place p on the text s has `room` more bytes, and the first of them are the letter and a byte 9.
-unfoldable pub starts : List ℕ → ℕ → ℕ → ℕ → Bool
-starts s p letter room = cond (leb (p + room) (length s)) (cond (eqb (get_or s p 0) letter) (eqb (get_or s (p + 1) 0) 9) false) false
+-- What the next line of the text t says, as `read` has it, and how many bytes the line has with its byte 10. It is taken where the
+-- text has `room` bytes, a byte 10 is ahead, and the line has no fault.
+unfoldable pub line_taken : {A : Type 0} → ℕ → (List ℕ → Result A Fault) → List ℕ → Option (A × ℕ)
+line_taken room read t =
+    cond (leb room (length t)) (cond (ahead 10 t) (after (read (until 10 t)) (λ f. None) (λ a. Some (a, before 10 t + 1))) None) None
 
--- The line of the text s at place p is taken: the text has `room` more bytes there, a byte 10 is ahead, and the line has no fault.
-unfoldable pub is_taken : List ℕ → ℕ → ℕ → (List ℕ → Fault) → Bool
-is_taken s p room fault = cond (leb (p + room) (length s)) (cond (ahead 10 (drop p s)) (is_sound (fault (until 10 (drop p s)))) false) false
+-- Every range ends below 10 ^ 8, so that its numbers have at most 8 digits.
+abbrev pub ShortRanges : List Range → Type 0
+ShortRanges [] = Unit
+ShortRanges (range ∷ ranges) = (range.most < 10 ^ 8) × ShortRanges ranges

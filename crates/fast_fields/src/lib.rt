@@ -1,8 +1,9 @@
 #![tactic(auto)]
 
-ghost use Rattle.std.specs.Prelude.{◌≡◌, ◌+◌, ◌≤◌, ◌<◌, length};
-ghost use Rattle.fast_fields.specs.Take.{taken_at, starts};
+ghost use Rattle.std.specs.Prelude.{◌≡◌, ◌≤◌, ◌<◌, length};
+ghost use Rattle.fast_fields.specs.Take.{taken, starts};
 
+use fields::Range;
 use text::TAB;
 
 // The functions `take_..` go over a line once, and take it only where it is sound and not near the end of the text: what they do
@@ -11,61 +12,37 @@ use text::TAB;
 // A number of more digits is not taken. Every range but those of the H line ends below 10 ^ 8.
 pub const DIGITS_TAKEN: usize = 8;
 
-// A number that was taken, with the place of the byte behind it, or none.
-#[derive(Drop)]
-pub enum Taken {
-    Number(u32, usize),
-    Other,
-}
-
-// Whether the text goes on for `room` bytes from `from` on, and starts there with the letter and a byte 9.
-pub fn starts_with(s: &[u8], from: usize, letter: u8, room: usize) -> bool
-    requires { (from ≤ length s.now) × (2 ≤ room) }
-    ensures { result ≡ starts s.now from letter room }
+// Whether the text has `room` bytes, and starts with the letter and a byte 9.
+pub fn starts_with(t: &[u8], letter: u8, room: usize) -> bool
+    requires { 2 ≤ room }
+    ensures { result ≡ starts letter room t.now }
 {
-    if s.len() - from < room {
-        return false;
-    }
-    if s[from] != letter {
-        return false;
-    }
-    s[from + 1] == TAB
+    room <= t.len() && t[0] == letter && t[1] == TAB
 }
 
-// Takes the number from lo to hi that starts at `at`, has at most 8 digits and ends at a byte `stop`.
-pub fn take_number(s: &[u8], at: usize, stop: u8, lo: u32, hi: u32) -> Taken
-    requires { (at + 9 ≤ length s.now) × (stop < 48) }
-    ensures { result ≡ taken_at s.now at stop lo hi }
+// Takes the number in the range that the text starts with, if it has at most 8 digits and ends at a byte `stop`: its value, and how
+// many digits it has.
+pub fn take_number(t: &[u8], stop: u8, range: Range) -> Option<(u32, usize)>
+    requires { (9 ≤ length t.now) × (stop < 48) }
+    ensures { result ≡ taken stop range t.now }
 {
     let mut v: u32 = 0;
-    let mut k: usize = 0;
-    while k < DIGITS_TAKEN {
-        let digit = s[at + k];
-        if digit < b'0' {
+    let mut digits: usize = 0;
+    for b in &t[..DIGITS_TAKEN] {
+        if !b.is_ascii_digit() {
             break;
         }
-        if b'9' < digit {
-            break;
-        }
-        v = v * 10 + (digit - b'0') as u32;
-        k += 1;
+        v = v * 10 + (*b - b'0') as u32;
+        digits += 1;
     }
-    if k == 0 {
-        return Taken::Other;
+    if digits == 0 || t[digits] != stop {
+        return None;
     }
-    if 1 < k {
-        if s[at] == b'0' {
-            return Taken::Other;
-        }
+    if 1 < digits && t[0] == b'0' {
+        return None;
     }
-    if s[at + k] != stop {
-        return Taken::Other;
+    if v < range.least || range.most < v {
+        return None;
     }
-    if v < lo {
-        return Taken::Other;
-    }
-    if hi < v {
-        return Taken::Other;
-    }
-    Taken::Number(v, at + k)
+    Some((v, digits))
 }

@@ -1,1 +1,2 @@
-pub mod Take
+pub mod Numbers
+pub mod Entries

@@ -1,13 +1,11 @@
--- Which lines of a kind are taken in one pass over their bytes, and what they leave.
+-- Which lines of a kind are taken in one pass over their bytes, and what they say.
 -- Assumes nothing.
-use Rattle.std.specs.Prelude.{◌≡◌, Bool, cond, List, ℕ, ◌+◌, ◌*◌, drop}
-use Rattle.text.specs.Text.{before, until}
-use Rattle.fast_fields.specs.Take.{is_taken}
+use Rattle.std.specs.Prelude.{List, ℕ, ◌+◌, ◌*◌, Option}
+use Rattle.fast_fields.specs.Take.{line_taken}
 use Rattle.line_kinds.specs.declared.Kind.{Kind}
 use Rattle.line_kinds.specs.declared.Kind.TheVariants.{Level, Change, Work}
-use Rattle.line_kinds.specs.Figures.{fields_for, put}
-use Rattle.fast_lines.specs.declared.Next.{Next}
-use Rattle.fast_lines.specs.declared.Next.TheVariants.{Line, Other}
+use Rattle.line_kinds.specs.declared.Entry.{Entry}
+use Rattle.line_kinds.specs.Figures.{fields_for}
 
 -- How many bytes the text must have where a line of n numbers is taken: the letter, the byte 9 behind it and, for each number, 8
 -- digits and the byte behind them.
@@ -19,19 +17,7 @@ room_of (Level resistance) = room_for 1
 room_of (Change p) = room_for 2
 room_of Work = room_for 3
 
--- Line j, from 0, of the lines of a kind is taken of the text s at place p; j counts for S lines alone.
-unfoldable pub takes_line : Kind → ℕ → List ℕ → ℕ → Bool
-takes_line kind j s p = is_taken s p (room_of kind) (λ line. (fields_for kind j line).fault)
-
--- Where the line behind the one at place p starts.
-unfoldable pub line_after : List ℕ → ℕ → ℕ
-line_after s p = p + before 10 (drop p s) + 1
-
--- The store of figures with the values of line j, at place p, put in place k, where that line is taken.
-unfoldable pub store_after : Kind → ℕ → List ℕ → ℕ → ℕ → List ℕ → List ℕ
-store_after kind j s p k st = cond (takes_line kind j s p) (put kind k (fields_for kind j (until 10 (drop p s))).values st) st
-
--- Line j is taken, and the store is new, or none is, and the store is the old one.
-pub record TakesLine (kind : Kind) (j : ℕ) (s : List ℕ) (p k : ℕ) (old new : List ℕ) (r : Next) : Type 0 where
-  pub next : r ≡ cond (takes_line kind j s p) (Line (line_after s p)) Other
-  pub store : new ≡ store_after kind j s p k old
+-- What the next line of the text t says, as line j, from 0, of the lines of a kind, and how many bytes it has with its byte 10,
+-- where it is taken; j counts for S lines alone.
+unfoldable pub entry_taken : Kind → ℕ → List ℕ → Option (Entry × ℕ)
+entry_taken kind j t = line_taken (room_of kind) (fields_for kind j) t

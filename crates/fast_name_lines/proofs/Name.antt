@@ -1,176 +1,161 @@
 -- Laws of names and of lines J that are taken in one pass: what each byte adds, what is taken and what not.
 -- Assumes nothing.
 use mathlib.Core.Path.{◌≡◌, refl, ap, sym, ◌∙◌}
-use mathlib.Core.Logic.{◌⊎◌, ⊎_elim}
-use mathlib.Core.Bool.{Bool, true, false, cond}
-use mathlib.Core.List.{List, ◌∷◌}
-use Prim.Native.Nat.{ℕ, suc, ◌+◌, ◌≤◌, ◌<◌}
+use mathlib.Core.Logic.{◌⊎◌, inl, inr, ⊎_elim}
+use mathlib.Core.Bool.{Bool, true, false, cond, ◌&&◌}
+use mathlib.Core.List.{List, [], ◌∷◌}
+use Prim.Native.Nat.{ℕ, zero, suc, ◌+◌, ◌-◌, ◌≤◌, ◌<◌}
 use native.Mathlib.Decide.{ℕ_discrete}
 use native.Mathlib.Omega.{arith}
-use lib.ListN.{length, get_or, drop, length-drop}
+use lib.Dec.{leb}
+use lib.ListN.{length, get_or, take, drop, length-drop}
 use borrow.Author.Tests.{eq-eqb}
-use Rattle.text.specs.Text.{before, until, ahead, part, all}
-use Rattle.text.specs.Line.{LineAt}
-use Rattle.text.proofs.Text.{before_hit, before_pass, until_hit, until_pass, drop_here, length_until, ahead_lt, lt_ahead, all_low, all_high, all_on, all_none}
-use Rattle.text.proofs.Scanned.{line_part}
-use Rattle.text.proofs.Tests.{clash, not_so, not_both}
+use Rattle.std.proofs.lemmas.List.{take_all, get_or-drop}
+use Rattle.std.specs.Prelude.{Option, Some, None, Result, Ok, Err}
+use Rattle.std.specs.Char.{is_ascii_graphic}
+use Rattle.std.specs.List.{prefix_len}
+use Rattle.std.specs.Option.{option_map}
+use Rattle.text.specs.Text.{before, until, ahead, all}
+use Rattle.text.proofs.Text.{before_hit, before_pass, until_hit, until_pass, drop_here, length_until, lt_ahead, all_none}
+use Rattle.text.proofs.Tests.{clash}
 use Rattle.fields.specs.Fields.{opens}
-use Rattle.fields.specs.declared.Fault.TheVariants.{Sound, Shape, Form}
-use Rattle.fields.proofs.Fields.{opens_tabs}
-use Rattle.fields.proofs.Within.{malformed, shapeless}
+use Rattle.fields.specs.declared.Fault.{Fault}
 use Rattle.name_lines.specs.Name.{name_max, is_name, name_on, name_fault}
 use Rattle.name_lines.proofs.Name.{name_form, name_all, name_some, name_few}
-use Rattle.fast_fields.specs.Take.{starts, is_taken}
+use Rattle.fast_fields.specs.Take.{starts, line_taken}
 use Rattle.fast_fields.proofs.Onward.{all_count, Onward}
-use Rattle.fast_fields.proofs.Line.{SoundAt, sound_at, sound_taken, Starts, opens_starts, starts_onward, starts_opens}
-use Rattle.fast_name_lines.specs.Name.{name_end, name_line_max, name_line_end}
+use Rattle.fast_fields.proofs.Line.{line_takes, line_left, Starts, opens_starts, starts_onward, starts_opens}
+use Rattle.fast_name_lines.specs.Name.{name_line_max}
 
--- ---- taking a name, by bytes
+-- ---- the bytes of a name
 
--- Of the line of the text s that starts at place p, k bytes of a name stand first.
-pub record Letters (s : List ℕ) (p k : ℕ) : Type 0 where
-  pub rest : all 33 126 (until 10 (drop p s)) ≡ all 33 126 (until 10 (drop (p + k) s))
-  pub size : before 10 (drop p s) ≡ k + before 10 (drop (p + k) s)
+all_graphic : (c : ℕ) (t : List ℕ) → all 33 126 (c ∷ t) ≡ cond (is_ascii_graphic c) (all 33 126 t) false
+unfolding all
+all_graphic c t = go (leb 33 c) (leb c 126)
+  where
+    go : (a b : Bool) → cond a (cond b (all 33 126 t) false) false ≡ cond (a && b) (all 33 126 t) false
+    go true b = refl
+    go false b = refl
 
--- Of the name at place p k bytes are passed, and the text has the room for all that are taken.
-pub record Passed (s : List ℕ) (p k : ℕ) : Type 0 where
-  pub few : k ≤ name_max
-  pub room : p + (name_max + 1) ≤ length s
-  pub letters : Letters s p k
+-- Of the line that the text t starts with, k bytes of a name stand first; no byte of one follows, or k is n.
+pub record Letters (t : List ℕ) (n k : ℕ) : Type 0 where
+  pub few : k ≤ n
+  pub rest : all 33 126 (until 10 t) ≡ all 33 126 (until 10 (drop k t))
+  pub size : before 10 t ≡ k + before 10 (drop k t)
+  pub next : k < n → is_ascii_graphic (get_or t k 0) ≡ false
 
-pub letters_none : (s : List ℕ) (p : ℕ) → Letters s p 0
-letters_none s p = let z : p + 0 ≡ p = omega arith in record { rest = rw z refl; size = rw z (omega arith) }
+letters_more : (c : ℕ) (t : List ℕ) (n k : ℕ) → is_ascii_graphic c ≡ true → Letters t n k → Letters (c ∷ t) (suc n) (suc k)
+letters_more c t n k e z =
+    let o : c ≡ 10 → ⊥ = λ q. let w = clash (sym e ∙ ap is_ascii_graphic q) in omega arith in
+    record {
+      few = omega (arith, z.few);
+      rest = ap (all 33 126) (until_pass 10 c t o) ∙ all_graphic c (until 10 t) ∙ rw e z.rest;
+      size = omega (arith, before_pass 10 c t o, z.size);
+      next = λ l. z.next (omega arith);
+    }
 
--- What is taken, and what not.
-module _ (s : List ℕ) (p : ℕ) where
-  pub name_so : ahead 10 (drop p s) ≡ true → is_name (until 10 (drop p s)) ≡ true → name_end s p ≡ p + before 10 (drop p s)
-  unfolding name_end
-  name_so a n = rw (a, n, length_until 10 (drop p s)) refl
+pub letters : (n : ℕ) (t : List ℕ) → n ≤ length t → Letters t n (prefix_len is_ascii_graphic (take n t))
+letters zero t h = record { few = omega arith; rest = refl; size = omega arith; next = λ l. absurd (omega arith) }
+letters (suc n) [] h = absurd (omega arith)
+letters (suc n) (c ∷ t) h = go (is_ascii_graphic c) refl (letters n t (omega arith))
+  where
+    go : (b : Bool) → is_ascii_graphic c ≡ b → Letters t n (prefix_len is_ascii_graphic (take n t)) →
+        Letters (c ∷ t) (suc n) (cond b (1 + prefix_len is_ascii_graphic (take n t)) 0)
+    go true e z =
+        let k = prefix_len is_ascii_graphic (take n t) in
+        let w : 1 + k ≡ suc k = omega arith in
+        rw w (letters_more c t n k e z)
+    go false e z = record { few = omega arith; rest = refl; size = omega arith; next = λ l. e }
 
-  pub name_none : (ahead 10 (drop p s) ≡ true → is_name (until 10 (drop p s)) ≡ true → ⊥) → name_end s p ≡ p
-  unfolding name_end
-  name_none n = not_both (ahead 10 (drop p s)) (is_name (until 10 (drop p s))) _ _ n
+module _ (t : List ℕ) (k : ℕ) (z : Letters t name_max k) (h : k < length t) where
+  here : drop k t ≡ get_or t k 0 ∷ drop (k + 1) t
+  here = drop_here t k h
 
-  pub name_taken : p < name_end s p → (ahead 10 (drop p s) ≡ true) × (is_name (until 10 (drop p s)) ≡ true)
-  unfolding name_end
-  name_taken = go (ahead 10 (drop p s)) (is_name (until 10 (drop p s)))
-    where
-      go : (a b : Bool) → p < cond a (cond b (p + length (until 10 (drop p s))) p) p → (a ≡ true) × (b ≡ true)
-      go true true h = (refl, refl)
-      go true false h = absurd (omega arith)
-      go false b h = absurd (omega arith)
-
-module _ (s : List ℕ) (p k : ℕ) (z : Letters s p k) (h : p + k < length s) where
-  -- At a byte that does not end the line.
-  module _ (n : get_or s (p + k) 0 ≡ 10 → ⊥) where
-    here : drop (p + k) s ≡ get_or s (p + k) 0 ∷ drop (p + k + 1) s
-    here = drop_here s (p + k) h
-
-    byte : all 33 126 (until 10 (drop p s)) ≡ all 33 126 (get_or s (p + k) 0 ∷ until 10 (drop (p + k + 1) s))
-    byte = z.rest ∙ ap (all 33 126) (ap (until 10) here ∙ until_pass 10 _ _ n)
-
-    more : before 10 (drop p s) ≡ k + suc (before 10 (drop (p + k + 1) s))
-    more = z.size ∙ ap (λ (x : ℕ). k + x) (ap (before 10) here ∙ before_pass 10 _ _ n)
-
-    pub letters_more : 33 ≤ get_or s (p + k) 0 → get_or s (p + k) 0 ≤ 126 → Letters s p (k + 1)
-    letters_more a b =
-        let e : p + (k + 1) ≡ p + k + 1 = omega arith in
-        record { rest = rw e (byte ∙ all_on 33 126 _ _ a b); size = rw e (omega (arith, more)) }
-
-    -- The byte goes on with no name.
-    pub letters_other : (name_max ≤ k) ⊎ ((get_or s (p + k) 0 < 33) ⊎ (126 < get_or s (p + k) 0)) → p ≡ name_end s p
-    letters_other c =
-        let f : (all 33 126 (until 10 (drop p s)) ≡ false) → is_name (until 10 (drop p s)) ≡ true → ⊥ =
-        λ e m. let w = clash (sym (name_all _ m) ∙ e) in omega arith in
-        sym (name_none s p (λ a m.
-        ⊎_elim
-        (λ (l : name_max ≤ k). omega (arith, more, name_few _ m, length_until 10 (drop p s)))
-        (⊎_elim
-        (λ (b : get_or s (p + k) 0 < 33). f (byte ∙ all_low 33 126 _ _ b) m)
-        (λ (b : 126 < get_or s (p + k) 0). f (byte ∙ all_high 33 126 _ _ (omega arith) b) m))
-        c))
-
-  -- A byte 10 ends the name; where it is empty, none is taken.
-  pub letters_name : k ≤ name_max → get_or s (p + k) 0 ≡ 10 → p + k ≡ name_end s p
+  -- A byte 10 ends the name.
+  letters_name : 0 < k → get_or t k 0 ≡ 10 → (ahead 10 t ≡ true) × (is_name (until 10 t) ≡ true) × (before 10 t ≡ k)
   letters_name l e =
-      let d = drop_here s (p + k) h in
-      let b : before 10 (drop p s) ≡ k = omega (arith, z.size, ap (before 10) d ∙ before_hit 10 _ _ e) in
-      let n = length_until 10 (drop p s) in
-      elim (ℕ_discrete k 0) [
-        | yes q ↦ omega (arith, name_none s p (λ a m. omega (arith, name_some _ m)))
-        | no q ↦
-            let a = lt_ahead 10 (drop p s) (omega (arith, length-drop p s)) in
-            let m = name_form (until 10 (drop p s)) (omega arith) (omega arith)
-            ∙ z.rest
-            ∙ ap (all 33 126) (ap (until 10) d ∙ until_hit 10 _ _ e)
-            ∙ all_none 33 126 in
-            omega (arith, name_so s p a m)
+      let b : before 10 t ≡ k = omega (arith, z.size, ap (before 10) here, before_hit 10 _ (drop (k + 1) t) e) in
+      let n = length_until 10 t in (
+        lt_ahead 10 t (omega arith),
+        name_form (until 10 t) (omega arith) (omega (arith, z.few)) ∙ z.rest ∙ ap (all 33 126) (ap (until 10) here ∙ until_hit 10 _ _ e) ∙ all_none 33 126,
+        b,
+      )
+
+  -- Where the bytes are none, or end otherwise, there is no name.
+  letters_other : (k ≡ 0) ⊎ (get_or t k 0 ≡ 10 → ⊥) → is_name (until 10 t) ≡ true → ⊥
+  letters_other c n =
+      elim (ℕ_discrete (get_or t k 0) 10) [
+        | yes e ↦
+            omega (arith, z.size, ap (before 10) here, before_hit 10 _ (drop (k + 1) t) e, name_some _ n, length_until 10 t, ⊎_elim (λ (q : k ≡ 0). q) (λ (o : get_or t k 0 ≡ 10 → ⊥). absurd (o e)) c)
+        | no o ↦
+            let b = z.size ∙ ap (λ (x : ℕ). k + x) (ap (before 10) here ∙ before_pass 10 _ (drop (k + 1) t) o) in
+            let l : k < name_max = omega (arith, b, name_few _ n, length_until 10 t) in
+            let a = z.rest ∙ ap (all 33 126) (ap (until 10) here ∙ until_pass 10 _ (drop (k + 1) t) o) ∙ all_graphic (get_or t k 0) (until 10 (drop (k + 1) t)) in
+            let w = clash (sym (name_all _ n) ∙ a ∙ rw (z.next l) refl) in
+            omega arith
       ]
 
 -- ---- a line J
 
-module _ (s : List ℕ) (from : ℕ) where
-  pub name_line_none : (is_taken s from name_line_max name_fault ≡ true → ⊥) → from ≡ name_line_end s from
-  unfolding name_line_end
-  name_line_none n = rw (not_so _ n) refl
+-- How many bytes the line J has that is taken of the text t.
+abbrev size_taken : List ℕ → Option ℕ
+size_taken t = option_map (λ line. line.1) (line_taken name_line_max name_fault t)
 
-  -- A name line has its letter, and its name.
-  name_parts : SoundAt s from name_line_max name_fault → (opens 74 1 (until 10 (drop from s)) ≡ true) × (is_name (name_on (until 10 (drop from s))) ≡ true)
+module _ (t : List ℕ) where
+  -- A sound line J has its letter, and its name.
+  name_parts : {u : Unit} → name_fault (until 10 t) ≡ Ok u → (opens 74 1 (until 10 t) ≡ true) × (is_name (name_on (until 10 t)) ≡ true)
   unfolding name_fault
-  name_parts z = go (opens 74 1 (until 10 (drop from s))) (is_name (name_on (until 10 (drop from s)))) z.sound
+  name_parts = go (opens 74 1 (until 10 t)) (is_name (name_on (until 10 t))) _ _
     where
-      go : (a b : Bool) → cond a (cond b Sound (Form 2)) Shape ≡ Sound → (a ≡ true) × (b ≡ true)
-      go true true e = (refl, refl)
-      go true false e = absurd (malformed 2 e)
-      go false b e = absurd (shapeless e)
+      go : (a b : Bool) (f g : Fault) {u : Unit} → ◌≡◌ {A = Result Unit Fault} (cond a (cond b (Ok tt) (Err f)) (Err g)) (Ok u) → (a ≡ true) × (b ≡ true)
+      go true true f g e = (refl, refl)
+      go true false f g e = let n : ◌≡◌ {A = ℕ} 0 1 = cc in absurd (omega arith)
+      go false b f g e = let n : ◌≡◌ {A = ℕ} 0 1 = cc in absurd (omega arith)
 
-  pub name_unstarted : starts s from 74 name_line_max ≡ false → from ≡ name_line_end s from
+  pub name_unstarted : starts 74 name_line_max t ≡ false → size_taken t ≡ None
   name_unstarted e =
-      name_line_none (λ t.
-      let z = sound_at s from name_line_max name_fault t in
-      let c = clash (sym (opens_starts s from 74 name_line_max 1 (omega arith) z.within (name_parts z).0) ∙ e) in
-      omega arith)
+      ap (option_map (λ line. line.1)) (line_left name_line_max name_fault t (λ u z.
+      let c = clash (sym (opens_starts 74 name_line_max t 1 (omega arith) z.within (name_parts z.says).0) ∙ e) in
+      omega arith))
 
-  module _ (z : Starts s from 74 name_line_max) where
-    o : Onward s from (from + 2)
+  -- The text behind the letter and the byte 9.
+  behind : take (length t - 2) (drop 2 t) ≡ drop 2 t
+  behind = take_all (length t - 2) (drop 2 t) (omega (arith, length-drop 2 t))
+
+  pub name_room : Starts 74 name_line_max t → name_max ≤ length (take (length t - 2) (drop 2 t))
+  name_room z = rw behind (omega (arith, z.within, length-drop 2 t))
+
+  pub counted : Starts 74 name_line_max t → (k : ℕ) → k ≡ prefix_len is_ascii_graphic (take name_max (take (length t - 2) (drop 2 t))) → Letters (drop 2 t) name_max k
+  counted z k e = rw (e, behind) (letters name_max (drop 2 t) (omega (arith, z.within, length-drop 2 t)))
+
+  module _ (z : Starts 74 name_line_max t) (k : ℕ) (l : Letters (drop 2 t) name_max k) where
+    o : Onward t 2
     o = starts_onward z (omega arith) (omega arith)
 
-    name_sound : is_name (until 10 (drop (from + 2) s)) ≡ true → name_fault (until 10 (drop from s)) ≡ Sound
+    room : k < length (drop 2 t)
+    room = omega (arith, l.few, z.within, length-drop 2 t)
+
+    name_sound : is_name (until 10 (drop 2 t)) ≡ true → name_fault (until 10 t) ≡ Ok tt
     unfolding name_fault
     name_sound n =
         let a = starts_opens z (omega arith) (omega arith) 0 ∙ eq-eqb _ _ (all_count 33 126 (omega arith) _ (name_all _ n)) in
         rw (a, o.rest, n) refl
 
-    pub name_line_taken : from + 2 < name_end s (from + 2) → name_end s (from + 2) ≡ name_line_end s from
-    unfolding name_line_end
-    name_line_taken h =
-        let n = name_taken s (from + 2) h in
-        let t = sound_taken s from name_line_max name_fault (record { within = z.within; ends = o.ends ∙ n.0; sound = name_sound n.1 }) in
-        rw t (omega (arith, o.end, name_so s (from + 2) n.0 n.1))
+    same : get_or (drop 2 t) k 0 ≡ get_or t (2 + k) 0
+    same = get_or-drop 2 t k 0
 
-    pub name_line_left : name_end s (from + 2) ≤ from + 2 → from ≡ name_line_end s from
-    name_line_left h =
-        name_line_none (λ t.
-        let y = sound_at s from name_line_max name_fault t in
-        let n = ap is_name (sym o.rest) ∙ (name_parts y).1 in
-        omega (arith, name_so s (from + 2) (sym o.ends ∙ y.ends) n, name_some _ n, length_until 10 (drop (from + 2) s)))
+    pub name_taken : 0 < k → get_or t (2 + k) 0 ≡ 10 → size_taken t ≡ Some (2 + k + 1)
+    name_taken h e =
+        let n = letters_name (drop 2 t) k l room h (same ∙ e) in
+        ap (option_map (λ line. line.1)) (line_takes name_line_max name_fault t (record {
+          within = z.within;
+          ends = o.ends ∙ n.0;
+          says = name_sound n.1;
+          size = omega (arith, o.end, n.2);
+        }))
 
--- A sound line J of the text s starts at place p and ends at place e.
-pub record NameLine (s : List ℕ) (p e : ℕ) : Type 0 where
-  pub line : LineAt s p (record { end = e; tabs = 1 })
-  pub sound : name_fault (part p e s) ≡ Sound
-  pub ended : e < length s
-
-pub name_line : (s : List ℕ) (p e : ℕ) → e ≡ name_line_end s p → p < e → NameLine s p e
-unfolding name_line_end
-name_line s p e q h = go (is_taken s p name_line_max name_fault) refl q
-  where
-    go : (b : Bool) → is_taken s p name_line_max name_fault ≡ b → e ≡ cond b (p + before 10 (drop p s)) p → NameLine s p e
-    go true t w =
-        let z = sound_at s p name_line_max name_fault t in
-        let l = ahead_lt 10 (drop p s) z.ends in
-        let n = length-drop p s in
-        let line : LineAt s p (record { end = e; tabs = 1 }) =
-        record { end = w; tabs = sym (opens_tabs 74 1 _ (name_parts s p z).0); within = omega arith } in
-        record { line = line; sound = ap name_fault (line_part line) ∙ z.sound; ended = omega arith }
-    go false t w = absurd (omega arith)
+    pub name_left : (k ≡ 0) ⊎ (get_or t (2 + k) 0 ≡ 10 → ⊥) → size_taken t ≡ None
+    name_left c =
+        let d = ⊎_elim (λ (q : k ≡ 0). inl q) (λ (n : get_or t (2 + k) 0 ≡ 10 → ⊥). inr (λ e. n (sym same ∙ e))) c in
+        ap (option_map (λ line. line.1)) (line_left name_line_max name_fault t (λ u y.
+        letters_other (drop 2 t) k l room d (ap is_name (sym o.rest) ∙ (name_parts y.says).1)))

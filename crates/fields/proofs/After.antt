@@ -1,24 +1,27 @@
--- What follows a line, by the line's fault.
+-- What follows a line, by its outcome.
 -- Assumes nothing.
 use mathlib.Core.Path.{◌≡◌, refl}
+use mathlib.Core.Bool.{Bool, true, false, cond}
+use Rattle.std.specs.Prelude.{Result, Ok, Err}
 use Rattle.fields.specs.Fields.{after}
 use Rattle.fields.specs.declared.Fault.{Fault}
-use Rattle.fields.specs.declared.Fault.TheVariants.{Sound, Shape, Form, Range}
-use Rattle.fields.proofs.Within.{faulty, malformed, shapeless}
-
--- A fault that is not `Sound`, as a match leaves it.
-abbrev pub Other : Fault → Type 0
-Other g = g ≡ Sound → ⊥
-
-pub after_other : {X : Type 0} (g : Fault) (stop go : X) → Other g → after g stop go ≡ stop
-after_other Sound stop go h = absurd (h refl)
-after_other Shape stop go h = refl
-after_other (Form f) stop go h = refl
-after_other (Range f) stop go h = refl
 
 -- What holds after a line.
-pub after_cases : {X : Type 0} (P : X → Type 0) (f : Fault) (stop go : X) → ((f ≡ Sound → ⊥) → P stop) → (f ≡ Sound → P go) → P (after f stop go)
-after_cases P Sound stop go a b = b refl
-after_cases P Shape stop go a b = a shapeless
-after_cases P (Form k) stop go a b = a (malformed k)
-after_cases P (Range k) stop go a b = a (faulty k)
+pub after_cases : {A X : Type 0} (P : X → Type 0) (r : Result A Fault) (stop : Fault → X) (go : A → X) →
+    ((f : Fault) → r ≡ Err f → P (stop f)) → ((a : A) → r ≡ Ok a → P (go a)) → P (after r stop go)
+after_cases P (Ok a) stop go f g = g a refl
+after_cases P (Err e) stop go f g = f e refl
+
+-- What a line says, where what is made of it says something.
+pub after_ok : {A B : Type 0} (r : Result A Fault) (go : A → Result B Fault) (b : B) → after r Err go ≡ Ok b → (a : A) × (r ≡ Ok a) × (go a ≡ Ok b)
+after_ok (Ok a) go b e = (a, refl, e)
+after_ok (Err f) go b e = absurd cc
+
+-- A test that is passed where something is said.
+pub cond_ok : {B : Type 0} (t : Bool) (x : Result B Fault) (f : Fault) (b : B) → cond t x (Err f) ≡ Ok b → (t ≡ true) × (x ≡ Ok b)
+cond_ok true x f b e = (refl, e)
+cond_ok false x f b e = absurd cc
+
+pub cond_fault : {B : Type 0} (t : Bool) (x : Result B Fault) (f : Fault) (b : B) → cond t (Err f) x ≡ Ok b → (t ≡ false) × (x ≡ Ok b)
+cond_fault true x f b e = absurd cc
+cond_fault false x f b e = (refl, e)

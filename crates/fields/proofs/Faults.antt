@@ -1,41 +1,54 @@
 -- The field that the fault of a line names is at most 11.
 -- Assumes nothing.
-use mathlib.Core.List.{List}
-use Prim.Native.Nat.{ℕ, zero, suc, ◌+◌, ◌≤◌}
+use mathlib.Core.Path.{◌≡◌, subst}
+use mathlib.Core.List.{List, [], ◌∷◌}
+use Prim.Native.Nat.{ℕ, ◌+◌, ◌≤◌}
 use native.Mathlib.Omega.{arith}
 use lib.Dec.{ltb}
-use lib.ListN.{get_or, set, replicate}
+use lib.ListN.{length}
+use Rattle.std.specs.Prelude.{Result, Ok, Err}
 use Rattle.text.specs.Text.{until, beyond}
 use Rattle.numbers.specs.Number.{is_number, value_from}
 use Rattle.fields.specs.declared.Fault.{Fault}
-use Rattle.fields.specs.declared.Fault.TheVariants.{Sound, Shape, Form, Range}
-use Rattle.fields.specs.Fields.{Fields, opens, numbers_from, fields_of}
+use Rattle.fields.specs.declared.Fault.TheVariants.{Shape, Form, Range as OutOfRange}
+use Rattle.fields.specs.declared.Range.{Range}
+use Rattle.fields.specs.Fields.{after, opens, numbers_from, fields_of}
+use Rattle.fields.proofs.After.{after_cases}
 use Rattle.fields.proofs.Within.{cond_cases}
 
 -- The field that a fault names; 0 for none.
 abbrev pub field_in : Fault → ℕ
-field_in Sound = 0
 field_in Shape = 0
 field_in (Form field) = field
-field_in (Range field) = field
+field_in (OutOfRange field) = field
 
 -- A fault of the line names field 11 at the latest.
-abbrev pub FieldLe : Fields → Type 0
-FieldLe fields = field_in fields.fault ≤ 11
+abbrev pub FieldLe : {A : Type 0} → Result A Fault → Type 0
+FieldLe (Ok a) = Unit {0}
+FieldLe (Err f) = field_in f ≤ 11
+
+pub field_le : {A : Type 0} (r : Result A Fault) (f : Fault) → r ≡ Err f → FieldLe r → field_in f ≤ 11
+field_le r f e h = subst FieldLe e h
+
+-- What is made of a line names no field of its own.
+pub after_field : {A B : Type 0} (r : Result A Fault) (go : A → Result B Fault) → FieldLe r → ((a : A) → r ≡ Ok a → FieldLe (go a)) → FieldLe (after r Err go)
+after_field r go h g = after_cases FieldLe r Err go (λ f e. subst FieldLe e h) g
 
 -- Numbers before number 10, which would be field 12.
-pub numbers_field : (los his : List ℕ) (n j : ℕ) (t vs : List ℕ) → j + n ≤ 10 → FieldLe (numbers_from los his n j t vs)
+pub numbers_field : (ranges : List Range) (j : ℕ) (t : List ℕ) → j + length ranges ≤ 10 → FieldLe (numbers_from ranges j t)
 unfolding numbers_from
-numbers_field los his zero j t vs h = omega arith
-numbers_field los his (suc n) j t vs h =
+numbers_field [] j t h = tt
+numbers_field (range ∷ ranges) j t h =
     let v = value_from 0 (until 9 t) in
     cond_cases FieldLe (is_number (until 9 t)) _ _
-    (λ a. cond_cases FieldLe (ltb v (get_or los j 0)) _ _ (λ b. omega arith)
-    (λ b. cond_cases FieldLe (ltb (get_or his j 0) v) _ _ (λ c. omega arith) (λ c. numbers_field los his n (j + 1) (beyond 9 t) (set vs j v) (omega arith))))
+    (λ a. cond_cases FieldLe (ltb v range.least) _ _ (λ b. omega arith)
+    (λ b. cond_cases FieldLe (ltb range.most v) _ _ (λ c. omega arith)
+    (λ c. after_field (numbers_from ranges (j + 1) (beyond 9 t)) _ (numbers_field ranges (j + 1) (beyond 9 t) (omega arith)) (λ n e. tt))))
     (λ a. omega arith)
 
 -- A line of a letter and numbers.
-pub fields_field : (letter k : ℕ) (los his line : List ℕ) → k ≤ 10 → FieldLe (fields_of letter k los his line)
+pub fields_field : (letter : ℕ) (ranges : List Range) (line : List ℕ) → length ranges ≤ 10 → FieldLe (fields_of letter ranges line)
 unfolding fields_of
-fields_field letter k los his line h =
-    cond_cases FieldLe (opens letter k line) _ _ (λ a. numbers_field los his k 0 (beyond 9 line) (replicate 10 0) (omega arith)) (λ a. omega arith)
+fields_field letter ranges line h =
+    cond_cases FieldLe (opens letter (length ranges) line) _ _
+    (λ a. after_field (numbers_from ranges 0 (beyond 9 line)) _ (numbers_field ranges 0 (beyond 9 line) (omega arith)) (λ n e. tt)) (λ a. omega arith)

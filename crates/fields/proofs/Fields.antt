@@ -3,60 +3,65 @@
 use mathlib.Core.Logic.{◌⊎◌, ⊎_elim}
 use mathlib.Core.Path.{◌≡◌, refl, ap, sym, ◌∙◌}
 use mathlib.Core.Bool.{Bool, true, false, cond}
-use mathlib.Core.List.{List, [], ◌∷◌}
-use Prim.Native.Nat.{ℕ, suc, ◌+◌, ◌-◌, ◌≤◌, ◌<◌}
-use native.Mathlib.Decide.{dec_le}
+use mathlib.Core.List.{List, [], ◌∷◌, ◌++◌}
+use Prim.Native.Nat.{ℕ, zero, suc, ◌+◌, ◌≤◌, ◌<◌}
 use native.Mathlib.Omega.{arith}
 use lib.Dec.{eqb}
-use lib.ListN.{length, get_or, set, replicate, length-set}
+use lib.ListN.{length, get_or, set, take, drop, length-set}
+use lib.Seq.{drop-cons, take_all}
 use borrow.Author.Tests.{lt-ltb, le-ltb, eq-eqb, ne_eqb, eqb-true}
-use Rattle.text.specs.Text.{before, until, beyond, count, part}
-use Rattle.numbers.specs.Number.{is_number, value_from, field_at}
-use Rattle.numbers.specs.declared.Field.TheVariants.{Number, Malformed}
-use Rattle.text.proofs.Text.{before_none, before_hit, before_pass, before_le, until_none, part_none, part_here, length_part, beyond_part, count_ahead}
-use Rattle.numbers.proofs.Number.{number_empty}
-use Rattle.text.proofs.Tests.{clash, cond_true, cond_false}
-use Rattle.fields.specs.declared.Fault.TheVariants.{Sound, Shape, Form, Range}
-use Rattle.fields.specs.Fields.{Fields, opens, numbers_from, fields_of}
+use Rattle.std.specs.Prelude.{Result, Ok, Err, Some, None}
+use Rattle.text.specs.Text.{before, until, beyond, count}
+use Rattle.numbers.specs.Number.{is_number, value_from, next_number}
+use Rattle.text.proofs.Text.{none_test, before_none, before_hit, before_pass}
+use Rattle.text.proofs.Tests.{cond_true, cond_false}
+use Rattle.std.proofs.lemmas.Option.{cond_some, none-some}
+use Rattle.std.proofs.Common.{append_assoc, append-nil}
+use Rattle.std.proofs.lemmas.List.{drop_all}
+use Rattle.fields.specs.declared.Fault.{Fault}
+use Rattle.fields.specs.declared.Fault.TheVariants.{Shape, Form, Range as OutOfRange}
+use Rattle.fields.specs.declared.Range.{Range}
+use Rattle.fields.specs.Fields.{Fields, after, opens, numbers_from, fields_of}
 
 -- ---- the letter and the count of fields
 
-module _ (s : List ℕ) (from to letter k : ℕ) (long : to ≤ length s) where
-  pub opens_empty : to ≤ from → opens letter k (part from to s) ≡ false
+pub some_bytes : (line : List ℕ) → eqb (length line) 0 ≡ false → 0 < length line
+some_bytes [] e = absurd cc
+some_bytes (c ∷ t) e = omega arith
+
+module _ (letter k : ℕ) where
+  pub opens_empty : (line : List ℕ) → eqb (length line) 0 ≡ true → opens letter k line ≡ false
   unfolding opens
-  opens_empty e = rw (part_none from to s e, before_none 9) refl
+  opens_empty [] h = rw (before_none 9) refl
+  opens_empty (c ∷ t) h = absurd (omega (arith, eqb-true (length (c ∷ t)) 0 h))
 
-  module _ (h : from < to) where
-    line : part from to s ≡ get_or s from 0 ∷ part (from + 1) to s
-    line = part_here from to s h long
+  pub opens_other : (line : List ℕ) → 0 < length line → (get_or line 0 0 ≡ letter → ⊥) → opens letter k line ≡ false
+  unfolding opens
+  opens_other [] h n = absurd (omega arith)
+  opens_other (c ∷ t) h n = rw (ne_eqb c letter n) (cond_false (eqb (before 9 (c ∷ t)) 1))
 
-    pub opens_other : (get_or s from 0 ≡ letter → ⊥) → opens letter k (part from to s) ≡ false
+  module _ (high : 65 ≤ letter) where
+    pub opens_longer : (line : List ℕ) → get_or line 0 0 ≡ letter → 1 < length line → (get_or line 1 0 ≡ 9 → ⊥) → opens letter k line ≡ false
     unfolding opens
-    opens_other n = rw (line, ne_eqb (get_or s from 0) letter n) (cond_false (eqb (before 9 (get_or s from 0 ∷ part (from + 1) to s)) 1))
+    opens_longer [] e h n = absurd (omega arith)
+    opens_longer (c ∷ []) e h n = absurd (omega arith)
+    opens_longer (c ∷ d ∷ t) e h n =
+        let a = before_pass 9 c (d ∷ t) (λ q. omega arith) in
+        let b = before_pass 9 d t n in
+        rw (ne_eqb (before 9 (c ∷ d ∷ t)) 1 (λ z. omega (arith, a, b))) refl
 
-    module _ (e : get_or s from 0 ≡ letter) (high : 65 ≤ letter) where
-      one : before 9 (part from to s) ≡ suc (before 9 (part (from + 1) to s))
-      one = ap (before 9) line ∙ before_pass 9 (get_or s from 0) (part (from + 1) to s) (λ q. omega arith)
-
-      pub opens_longer : from + 1 < to → (get_or s (from + 1) 0 ≡ 9 → ⊥) → opens letter k (part from to s) ≡ false
-      unfolding opens
-      opens_longer m n =
-          let q = ap (before 9) (part_here (from + 1) to s m long) ∙ before_pass 9 (get_or s (from + 1) 0) (part (from + 1 + 1) to s) n in
-          rw (ne_eqb (before 9 (part from to s)) 1 (λ z. omega (arith, one))) refl
-
-      alone : (to ≤ from + 1) ⊎ ((from + 1 < to) × (get_or s (from + 1) 0 ≡ 9)) → before 9 (part (from + 1) to s) ≡ 0
-      alone c =
-          ⊎_elim
-          (λ (m : to ≤ from + 1). ap (before 9) (part_none (from + 1) to s m) ∙ before_none 9)
-          (λ (m : (from + 1 < to) × (get_or s (from + 1) 0 ≡ 9)).
-          ap (before 9) (part_here (from + 1) to s m.0 long) ∙ before_hit 9 (get_or s (from + 1) 0) (part (from + 1 + 1) to s) m.1)
-          c
-
-      pub opens_count : (to ≤ from + 1) ⊎ ((from + 1 < to) × (get_or s (from + 1) 0 ≡ 9)) → opens letter k (part from to s) ≡ eqb (count 9 (part from to s)) k
-      unfolding opens
-      opens_count c =
-          let f : get_or (part from to s) 0 0 ≡ letter = ap (λ (t : List ℕ). get_or t 0 0) line ∙ e in
-          rw (eq-eqb (before 9 (part from to s)) 1 (omega (arith, one, alone c)), eq-eqb (get_or (part from to s) 0 0) letter f) refl
+    pub opens_count : (line : List ℕ) → 0 < length line → get_or line 0 0 ≡ letter → (length line ≤ 1) ⊎ (get_or line 1 0 ≡ 9) →
+        opens letter k line ≡ eqb (count 9 line) k
+    unfolding opens
+    opens_count [] h e c = absurd (omega arith)
+    opens_count (a ∷ t) h e c =
+        let z : before 9 t ≡ 0 = alone t c in
+        let q : before 9 (a ∷ t) ≡ 1 = omega (arith, before_pass 9 a t (λ w. omega arith), z) in
+        rw (eq-eqb (before 9 (a ∷ t)) 1 q, eq-eqb a letter e) refl
+      where
+        alone : (t : List ℕ) → (length (a ∷ t) ≤ 1) ⊎ (get_or (a ∷ t) 1 0 ≡ 9) → before 9 t ≡ 0
+        alone [] m = before_none 9
+        alone (d ∷ t) m = ⊎_elim (λ (l : length (a ∷ d ∷ t) ≤ 1). absurd (omega arith)) (λ (l : d ≡ 9). before_hit 9 d t l) m
 
 module _ (letter k : ℕ) (line : List ℕ) (e : opens letter k line ≡ true) where
   -- A line that opens so has the letter alone before its first byte 9, and k bytes 9.
@@ -74,126 +79,96 @@ module _ (letter k : ℕ) (line : List ℕ) (e : opens letter k line ≡ true) w
   pub opens_tabs : count 9 line ≡ k
   opens_tabs = eqb-true _ _ letter_tabs.1
 
-module _ (s : List ℕ) (from to letter k : ℕ) (h : from ≤ to) (long : to ≤ length s) (e : opens letter k (part from to s) ≡ true) where
-  pub opens_some : from < to
-  opens_some = omega (arith, opens_before letter k (part from to s) e, before_le 9 (part from to s), length_part from to s long)
-
-  pub opens_beyond : beyond 9 (part from to s) ≡ part (from + 2) to s
-  opens_beyond =
-      let z : from + before 9 (part from to s) + 1 ≡ from + 2 = omega (arith, opens_before letter k (part from to s) e) in
-      beyond_part 9 from to s ∙ ap (λ (n : ℕ). part n to s) z
-
-  pub opens_second : 0 < k → from + 2 ≤ to
-  opens_second l =
-      omega (arith, opens_before letter k (part from to s) e, opens_tabs letter k (part from to s) e, count_ahead 9 (part from to s) (omega (arith, opens_tabs letter k (part from to s) e)), length_part from to s long)
-
--- ---- whole lines
-
-module _ (s : List ℕ) (from to letter k : ℕ) (los his : List ℕ) (h : from ≤ to) (long : to ≤ length s) where
-  pub fields_shape : opens letter k (part from to s) ≡ false →
-      record { fault = Shape; values = replicate 10 0; rest = part to to s } ≡ fields_of letter k los his (part from to s)
-  unfolding fields_of
-  fields_shape e = rw (e, part_none to to s (omega arith)) refl
-
-  pub fields_numbers : (r : Fields) → opens letter k (part from to s) ≡ true →
-      r ≡ numbers_from los his k 0 (part (from + 2) to s) (replicate 10 0) → r ≡ fields_of letter k los his (part from to s)
-  unfolding fields_of
-  fields_numbers r e q = rw (e, opens_beyond s from to letter k h long e) q
+  -- What comes after the letter.
+  pub opens_beyond : beyond 9 line ≡ drop 2 line
+  unfolding beyond
+  opens_beyond = rw opens_before refl
 
 -- ---- numbers
 
-module _ (p : ℕ) (t : List ℕ) where
+module _ (t : List ℕ) where
   -- What a field that was read says of the bytes.
-  pub field_malformed : field_at p t ≡ Malformed → is_number (until 9 t) ≡ false
-  unfolding field_at
-  field_malformed = go (is_number (until 9 t))
-    where
-      go : (b : Bool) → cond b (Number (value_from 0 (until 9 t)) (p + before 9 t + 1)) Malformed ≡ Malformed → b ≡ false
-      go true e = let z : ◌≡◌ {A = ℕ} 0 1 = cc in absurd (omega arith)
-      go false e = refl
+  pub number_none : None ≡ next_number t → is_number (until 9 t) ≡ false
+  unfolding next_number
+  number_none = none_test (is_number (until 9 t)) (value_from 0 (until 9 t), beyond 9 t)
 
-  pub field_number : (v q : ℕ) → field_at p t ≡ Number v q → (is_number (until 9 t) ≡ true) × (v ≡ value_from 0 (until 9 t)) × (q ≡ p + before 9 t + 1)
-  unfolding field_at
-  field_number v q = go (is_number (until 9 t))
-    where
-      go : (b : Bool) → cond b (Number (value_from 0 (until 9 t)) (p + before 9 t + 1)) Malformed ≡ Number v q →
-          (b ≡ true) × (v ≡ value_from 0 (until 9 t)) × (q ≡ p + before 9 t + 1)
-      go true e = (refl, cc, cc)
-      go false e = let z : ◌≡◌ {A = ℕ} 0 1 = cc in absurd (omega arith)
+  pub number_some : (v : ℕ) (rest : List ℕ) → Some (v, rest) ≡ next_number t →
+      (is_number (until 9 t) ≡ true) × (value_from 0 (until 9 t) ≡ v) × (beyond 9 t ≡ rest)
+  unfolding next_number
+  number_some v rest e = let h = cond_some _ _ _ (sym e) in (h.0, ap (λ (n : ℕ × List ℕ). n.0) h.1, ap (λ (n : ℕ × List ℕ). n.1) h.1)
 
--- Of the numbers from number `first` up to number k of the line that ends at place `to`, the first of which starts at place `at`,
--- those before number j are read, and number j starts at place p.
-pub record Reading (los his s : List ℕ) (at to first k : ℕ) (before values : List ℕ) (p j : ℕ) : Type 0 where
-  pub start : first ≤ j
-  pub most : j ≤ k
-  pub few : k ≤ 10
-  pub place : p ≤ to + 1
-  pub within : to ≤ length s
-  pub long : length values ≡ 10
-  pub same : numbers_from los his (k - first) first (part at to s) before ≡ numbers_from los his (k - j) j (part p to s) values
+-- Numbers that were read, in front of those that a line has behind them.
+abbrev pub in_front : List ℕ → Result Fields Fault → Result Fields Fault
+in_front xs r = after r Err (λ n. Ok (record { values = xs ++ n.values; rest = n.rest }))
 
--- The numbers from number j on are those of the text of line s up to place e, from place p on; k numbers in all.
-module _ (los his s : List ℕ) (to k j p : ℕ) (vs : List ℕ) (h : j < k) where
-  left : k - j ≡ suc (k - (j + 1))
-  left = omega arith
+in_front_none : (r : Result Fields Fault) → in_front [] r ≡ r
+in_front_none (Ok n) = refl
+in_front_none (Err f) = refl
 
-  pub numbers_form : field_at p (part p to s) ≡ Malformed →
-      numbers_from los his (k - j) j (part p to s) vs ≡ record { fault = Form (j + 2); values = vs; rest = part p to s }
+in_front_more : (xs : List ℕ) (v : ℕ) (r : Result Fields Fault) → in_front xs (in_front (v ∷ []) r) ≡ in_front (xs ++ v ∷ []) r
+in_front_more xs v (Ok n) = rw append_assoc refl
+in_front_more xs v (Err f) = refl
+
+take_set : (j v : ℕ) (xs : List ℕ) → j < length xs → take (suc j) (set xs j v) ≡ take j xs ++ v ∷ []
+take_set j v [] h = absurd (omega arith)
+take_set zero v (x ∷ xs) h = refl
+take_set (suc j) v (x ∷ xs) h = ap (λ (ys : List ℕ). x ∷ ys) (take_set j v xs (omega arith))
+
+-- The range of number j.
+abbrev pub range_at : List Range → ℕ → Range
+range_at ranges j = get_or ranges j (record { least = 0; most = 0 })
+
+-- Of numbers in the ranges, from number `first` on of the rest t of a line, the first j are read.
+pub record Reading (ranges : List Range) (first : ℕ) (t values rest : List ℕ) (j : ℕ) : Type 0 where
+  pub long : length values ≡ length ranges
+  pub same : numbers_from ranges first t ≡ in_front (take j values) (numbers_from (drop j ranges) (first + j) rest)
+
+pub reading_none : (ranges : List Range) (first : ℕ) (t values : List ℕ) → length values ≡ length ranges → Reading ranges first t values t 0
+reading_none ranges first t values h = let z : first + 0 ≡ first = omega arith in record { long = h; same = rw z (sym (in_front_none (numbers_from ranges first t))) }
+
+module _ {ranges : List Range} {first : ℕ} {t values rest : List ℕ} {j : ℕ} (g : Reading ranges first t values rest j) where
+  pub reading_all : length ranges ≤ j → Ok (record { values = values; rest = rest }) ≡ numbers_from ranges first t
   unfolding numbers_from
-  numbers_form e = rw (left, field_malformed p (part p to s) e) refl
+  reading_all h =
+      rw (g.same, drop_all j ranges h, take_all j values (omega (arith, g.long)), append-nil values) refl
 
-  module _ (v q : ℕ) (e : field_at p (part p to s) ≡ Number v q) where
-    good : is_number (until 9 (part p to s)) ≡ true
-    good = (field_number p (part p to s) v q e).0
+  module _ (h : j < length ranges) where
+    here : drop j ranges ≡ range_at ranges j ∷ drop (suc j) ranges
+    here = drop-cons ranges j (record { least = 0; most = 0 }) h
 
-    same : value_from 0 (until 9 (part p to s)) ≡ v
-    same = sym (field_number p (part p to s) v q e).1
-
-    pub numbers_low : v < get_or los j 0 →
-        numbers_from los his (k - j) j (part p to s) vs ≡ record { fault = Range (j + 2); values = vs; rest = part p to s }
+    pub reading_form : None ≡ next_number rest → Err (Form (first + j + 2)) ≡ numbers_from ranges first t
     unfolding numbers_from
-    numbers_low l = rw (left, good, same, lt-ltb v (get_or los j 0) l) refl
+    reading_form e = sym (g.same ∙ rw (here, number_none rest e) refl)
 
-    pub numbers_high : get_or los j 0 ≤ v → get_or his j 0 < v →
-        numbers_from los his (k - j) j (part p to s) vs ≡ record { fault = Range (j + 2); values = vs; rest = part p to s }
-    unfolding numbers_from
-    numbers_high l m = rw (left, good, same, le-ltb v (get_or los j 0) l, lt-ltb (get_or his j 0) v m) refl
+    module _ (v : ℕ) (more : List ℕ) (e : Some (v, more) ≡ next_number rest) where
+      pub reading_low : v < (range_at ranges j).least → Err (OutOfRange (first + j + 2)) ≡ numbers_from ranges first t
+      unfolding numbers_from
+      reading_low l = let n = number_some rest v more e in sym (g.same ∙ rw (here, n.0, n.1, lt-ltb v (range_at ranges j).least l) refl)
 
-    pub numbers_on : get_or los j 0 ≤ v → v ≤ get_or his j 0 →
-        numbers_from los his (k - j) j (part p to s) vs ≡ numbers_from los his (k - (j + 1)) (j + 1) (part q to s) (set vs j v)
-    unfolding numbers_from
-    numbers_on l m =
-        let n : beyond 9 (part p to s) ≡ part q to s =
-        beyond_part 9 p to s ∙ ap (λ (i : ℕ). part i to s) (sym (field_number p (part p to s) v q e).2) in
-        rw (left, good, same, le-ltb v (get_or los j 0) l, le-ltb (get_or his j 0) v m, n) refl
+      pub reading_high : (range_at ranges j).least ≤ v → (range_at ranges j).most < v → Err (OutOfRange (first + j + 2)) ≡ numbers_from ranges first t
+      unfolding numbers_from
+      reading_high k l = let n = number_some rest v more e in sym (g.same ∙ rw (here, n.0, n.1, le-ltb v (range_at ranges j).least k, lt-ltb (range_at ranges j).most v l) refl)
 
-  -- The next field starts within the line, or one place behind it.
-  pub next_within : (v q : ℕ) → field_at p (part p to s) ≡ Number v q → to ≤ length s → p ≤ to + 1 → q ≤ to + 1
-  next_within v q e l m =
-      let f = field_number p (part p to s) v q e in
-      elim (dec_le p to) [
-        | yes n ↦ omega (arith, f.2, before_le 9 (part p to s), length_part p to s l)
-        | no n ↦
-            let r : until 9 (part p to s) ≡ [] = ap (until 9) (part_none p to s (omega arith)) ∙ until_none 9 in
-            let g : is_number (until 9 (part p to s)) ≡ false = number_empty (until 9 (part p to s)) (ap length r) in
-            let z : ◌≡◌ {A = ℕ} 0 1 = clash (sym f.0 ∙ g) in
-            absurd (omega arith)
-      ]
+      pub reading_on : (range_at ranges j).least ≤ v → v ≤ (range_at ranges j).most → Reading ranges first t (set values j v) more (j + 1)
+      unfolding numbers_from
+      reading_on k l =
+          let n = number_some rest v more e in
+          let q : j + 1 ≡ suc j = omega arith in
+          let p : first + j + 1 ≡ first + suc j = omega arith in
+          record {
+            long = length-set values j v ∙ g.long;
+            same = g.same ∙ rw (q, here, n.0, n.1, n.2, le-ltb v (range_at ranges j).least k, le-ltb (range_at ranges j).most v l, p, take_set j v values (omega (arith, g.long, h)))
+                (in_front_more (take j values) v (numbers_from (drop (suc j) ranges) (first + suc j) more));
+          }
 
--- One number more is read.
-pub reading_next : {los his s : List ℕ} {at to first k : ℕ} {old values : List ℕ} {p j : ℕ} → Reading los his s at to first k old values p j → j < k →
-    (v q : ℕ) → field_at p (part p to s) ≡ Number v q → get_or los j 0 ≤ v → v ≤ get_or his j 0 → Reading los his s at to first k old (set values j v) q (j + 1)
-reading_next {los} {his} {s} {at} {to} {first} {k} {old} {values} {p} {j} g h v q e l m =
-    record {
-      start = omega (arith, g.start);
-      most = omega arith;
-      few = g.few;
-      place = next_within los his s to k j p values h v q e g.within g.place;
-      within = g.within;
-      long = length-set values j v ∙ g.long;
-      same = g.same ∙ numbers_on los his s to k j p values h v q e l m;
-    }
+-- ---- whole lines
 
-pub numbers_end : (los his t vs : List ℕ) (k j : ℕ) → k ≤ j → numbers_from los his (k - j) j t vs ≡ record { fault = Sound; values = vs; rest = t }
-unfolding numbers_from
-numbers_end los his t vs k j h = let z : k - j ≡ 0 = omega arith in rw z refl
+module _ (letter : ℕ) (ranges : List Range) (line : List ℕ) where
+  pub fields_shape : opens letter (length ranges) line ≡ false → Err Shape ≡ fields_of letter ranges line
+  unfolding fields_of
+  fields_shape e = rw e refl
+
+  pub fields_numbers : opens letter (length ranges) line ≡ true → (r : Result Fields Fault) → r ≡ numbers_from ranges 0 (drop 2 line) →
+      after r Err (λ n. Ok n.values) ≡ fields_of letter ranges line
+  unfolding fields_of
+  fields_numbers e r q = rw (e, opens_beyond letter (length ranges) line e, q) refl

@@ -1,48 +1,49 @@
 -- What a line of a sheet says (document 01, 'The sheet' and 'What is refused'): its letter, its count of fields, and its fields
 -- from the left, "each one's form and then its range before the next field".
 -- Assumes nothing.
-use Rattle.std.specs.Prelude.{Bool, false, cond, List, [], ℕ, zero, suc, ◌+◌, eqb, ltb, get_or, set, replicate}
-use Rattle.text.specs.Text.{before, until, beyond, count, part}
+use Rattle.std.specs.Prelude.{Bool, false, cond, List, [], ◌∷◌, ℕ, ◌+◌, eqb, ltb, length, get_or, Result, Ok, Err}
+use Rattle.std.specs.Result.{result_map_both}
+use Rattle.text.specs.Text.{before, until, beyond, count}
 use Rattle.numbers.specs.Number.{is_number, value_from}
 use Rattle.fields.specs.declared.Fault.{Fault}
-use Rattle.fields.specs.declared.Fault.TheVariants.{Sound, Shape, Form, Range}
+use Rattle.fields.specs.declared.Fault.TheVariants.{Shape, Form, Range as OutOfRange}
+use Rattle.fields.specs.declared.Range.{Range}
 use Rattle.fields.specs.declared.Numbers.{Numbers}
 
--- The numbers of a line as far as they are read: the first fault or none, their values, and the rest of the line.
+-- The range of a number, both ends included.
+abbrev pub from_to : ℕ → ℕ → Range
+from_to least most = record { least = least; most = most }
+
+-- Numbers of a line, and the rest of the line after them.
 pub record Fields : Type 0 where
-  pub fault : Fault
   pub values : List ℕ
   pub rest : List ℕ
+
+-- What follows a line: what is made of its fault, or what comes next with what it says.
+abbrev pub after : {A X : Type 0} → Result A Fault → (Fault → X) → (A → X) → X
+after (Ok a) stop go = go a
+after (Err f) stop go = stop f
 
 -- "The first field is one letter", and k fields come after it.
 unfoldable pub opens : ℕ → ℕ → List ℕ → Bool
 opens letter k line = cond (eqb (before 9 line) 1) (cond (eqb (get_or line 0 0) letter) (eqb (count 9 line) k) false) false
 
--- The next n numbers, from number j on, of the rest t of a line; number j is field j + 2, and its range is from the j-th of los
--- to the j-th of his.
-unfoldable pub numbers_from : List ℕ → List ℕ → ℕ → ℕ → List ℕ → List ℕ → Fields
-numbers_from los his zero j t vs = record { fault = Sound; values = vs; rest = t }
-numbers_from los his (suc n) j t vs =
+-- Numbers in the ranges, from number j on, of the rest t of a line; number j is field j + 2.
+unfoldable pub numbers_from : List Range → ℕ → List ℕ → Result Fields Fault
+numbers_from [] j t = Ok (record { values = []; rest = t })
+numbers_from (range ∷ ranges) j t =
     let v : ℕ = value_from 0 (until 9 t) in
     cond (is_number (until 9 t))
-    (cond (ltb v (get_or los j 0)) (record { fault = Range (j + 2); values = vs; rest = t })
-    (cond (ltb (get_or his j 0) v) (record { fault = Range (j + 2); values = vs; rest = t })
-    (numbers_from los his n (j + 1) (beyond 9 t) (set vs j v))))
-    (record { fault = Form (j + 2); values = vs; rest = t })
+    (cond (ltb v range.least) (Err (OutOfRange (j + 2)))
+    (cond (ltb range.most v) (Err (OutOfRange (j + 2)))
+    (after (numbers_from ranges (j + 1) (beyond 9 t)) Err (λ n. Ok (record { values = v ∷ n.values; rest = n.rest })))))
+    (Err (Form (j + 2)))
 
--- A line of a letter and k numbers.
-unfoldable pub fields_of : ℕ → ℕ → List ℕ → List ℕ → List ℕ → Fields
-fields_of letter k los his line =
-    cond (opens letter k line) (numbers_from los his k 0 (beyond 9 line) (replicate 10 0))
-    (record { fault = Shape; values = replicate 10 0; rest = [] })
+-- A line of a letter and numbers in the ranges.
+unfoldable pub fields_of : ℕ → List Range → List ℕ → Result (List ℕ) Fault
+fields_of letter ranges line =
+    cond (opens letter (length ranges) line) (after (numbers_from ranges 0 (beyond 9 line)) Err (λ n. Ok n.values)) (Err Shape)
 
--- What was read of a line of the text s that ends at place e.
-abbrev pub numbers_in : List ℕ → ℕ → Numbers → Fields
-numbers_in s e r = record { fault = r.fault; values = r.values; rest = part r.next e s }
-
--- What follows a line: where it is sound, what comes next, and else where it stops.
-abbrev pub after : {X : Type 0} → Fault → X → X → X
-after Sound stop go = go
-after Shape stop go = stop
-after (Form f) stop go = stop
-after (Range f) stop go = stop
+-- What was read of a line.
+abbrev pub numbers_in : {n : ℕ} → Result (Numbers n) Fault → Result Fields Fault
+numbers_in r = result_map_both (λ n. record { values = n.values; rest = n.rest.now }) (λ f. f) r

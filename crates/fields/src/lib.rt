@@ -1,121 +1,85 @@
 #![tactic(auto)]
 
-ghost use Rattle.std.specs.Prelude.{◌≡◌, ◌+◌, ◌-◌, ◌≤◌, length};
-ghost use Rattle.text.specs.Text.{part, count};
+ghost use Rattle.std.specs.Prelude.{◌≡◌, ◌+◌, ◌≤◌, ◌<◌, ◌^◌};
 ghost use Rattle.fields.specs.Fields.{opens, numbers_from, numbers_in, fields_of};
 
-use numbers::Field;
-use text::TAB;
+use text::{Line, TAB};
 
-// What is wrong with a line: nothing, its letter or its count of fields, a field's form, or a field's range.
+// What is wrong with a line: its letter or its count of fields, a field's form, or a field's range.
 #[derive(Clone, Copy)]
 pub enum Fault {
-    Sound,
     Shape,
     Form(usize),
     Range(usize),
 }
 
-// The numbers of a line as far as they were read, and the place of the field after them.
+// The range of a number, both ends included (document 01: "from .. to ..").
+#[derive(Clone, Copy)]
+pub struct Range {
+    pub least: u32,
+    pub most: u32,
+}
+
+// The next N numbers of a line, and the rest of it after them.
 #[derive(Drop)]
-pub struct Numbers {
-    pub fault: Fault,
-    pub values: [u32; 10],
-    pub next: usize,
+pub struct Numbers<'a, const N: usize> {
+    pub values: [u32; N],
+    pub rest: &'a [u8],
 }
 
-// Whether a line's first field is the letter and k fields come after it; `tabs` is how many bytes 9 it has.
-pub fn opens_with(s: &[u8], from: usize, to: usize, tabs: usize, letter: u8, k: usize) -> bool
-    requires { record { start : from ≤ to; end : to ≤ length s.now; capital : 65 ≤ letter; counted : tabs ≡ count 9 (part from to s.now) } }
-    ensures { result ≡ opens letter k (part from to s.now) }
+// Whether a line's first field is the letter and k fields come after it.
+pub fn opens_with(line: Line, letter: u8, k: usize) -> bool
+    requires { 65 ≤ letter }
+    ensures { result ≡ opens letter k line.entry.bytes.now }
 {
-    if from == to {
+    let s = line.bytes;
+    if s.is_empty() || s[0] != letter {
         return false;
     }
-    if s[from] != letter {
+    if 1 < s.len() && s[1] != TAB {
         return false;
     }
-    if 1 < to - from {
-        if s[from + 1] != TAB {
-            return false;
-        }
-    }
-    tabs == k
+    line.tabs == k
 }
 
-// Reads the numbers from number `first` up to number k of a line that ends at `to`; the first of them starts at `at`.
-pub fn read_numbers(
-    s: &[u8],
-    at: usize,
-    to: usize,
+// Reads the numbers from number `first` on of the rest of a line, each of them in its range.
+pub fn read_numbers<const N: usize>(
+    t: &[u8],
     first: usize,
-    k: usize,
-    before: [u32; 10],
-    lo: [u32; 10],
-    hi: [u32; 10],
-) -> Numbers
-    requires { (at ≤ to + 1) × (to ≤ length s.now) × (first ≤ k) × (k ≤ 10) }
-    ensures result_value { numbers_in s.now to result ≡ numbers_from lo hi (k - first) first (part at to s.now) before }
-    ensures next_bound { result.next ≤ to + 1 }
+    ranges: [Range; N],
+) -> Result<Numbers<'_, N>, Fault>
+    requires { first + N + 2 < 2 ^ 64 }
+    ensures { numbers_in result ≡ numbers_from ranges.entry first t.now }
 {
-    let mut values = before;
-    let mut p = at;
-    let mut j = first;
-    while j < k {
-        let f = numbers::read_number(s, p, to);
-        let Field::Number(v, next) = f else {
-            return Numbers {
-                fault: Fault::Form(j + 2),
-                values,
-                next: p,
-            };
+    let mut values = [0; N];
+    let mut rest = t;
+    for (j, range) in ranges.iter().enumerate() {
+        let Some(number) = numbers::read_number(rest) else {
+            return Err(Fault::Form(first + j + 2));
         };
-        if v < lo[j] as u64 {
-            return Numbers {
-                fault: Fault::Range(j + 2),
-                values,
-                next: p,
-            };
+        if number.value < range.least as u64 || (range.most as u64) < number.value {
+            return Err(Fault::Range(first + j + 2));
         }
-        if (hi[j] as u64) < v {
-            return Numbers {
-                fault: Fault::Range(j + 2),
-                values,
-                next: p,
-            };
-        }
-        values[j] = v as u32;
-        p = next;
-        j += 1;
+        values[j] = number.value as u32;
+        rest = number.rest;
     }
-    Numbers {
-        fault: Fault::Sound,
-        values,
-        next: p,
-    }
+    Ok(Numbers { values, rest })
 }
 
-// Reads a line of a letter and k numbers.
-pub fn read_fields(
-    s: &[u8],
-    from: usize,
-    to: usize,
-    tabs: usize,
+// Reads a line of a letter and N numbers.
+pub fn read_fields<const N: usize>(
+    line: Line,
     letter: u8,
-    k: usize,
-    lo: [u32; 10],
-    hi: [u32; 10],
-) -> Numbers
-    requires { (from ≤ to) × (to ≤ length s.now) × (65 ≤ letter) × (tabs ≡ count 9 (part from to s.now)) × (k ≤ 10) }
-    ensures { numbers_in s.now to result ≡ fields_of letter k lo hi (part from to s.now) }
+    ranges: [Range; N],
+) -> Result<[u32; N], Fault>
+    requires { (65 ≤ letter) × (N + 2 < 2 ^ 64) }
+    ensures { result ≡ fields_of letter ranges.entry line.entry.bytes.now }
 {
-    let zeros = [0u32; 10];
-    if !opens_with(s, from, to, tabs, letter, k) {
-        return Numbers {
-            fault: Fault::Shape,
-            values: zeros,
-            next: to,
-        };
+    if !opens_with(line, letter, N) {
+        return Err(Fault::Shape);
     }
-    read_numbers(s, from + 2, to, 0, k, zeros, lo, hi)
+    match read_numbers(text::behind(line.bytes, 1), 0, ranges) {
+        Ok(numbers) => Ok(numbers.values),
+        Err(fault) => Err(fault),
+    }
 }

@@ -7,22 +7,24 @@ use Prim.Native.Nat.{ℕ, suc, ◌+◌, ◌*◌, ◌-◌, ◌/◌, ◌%◌, ◌�
 use native.Mathlib.Nat.{div-add-mod', div-lt_iff_lt-mul, mod-lt, mul-pos}
 use native.Mathlib.Decide.{dec_lt}
 use native.Mathlib.Omega.{arith}
-use lib.ListN.{get_or}
+use lib.ListN.{get_or, length}
 use Rattle.frame.specs.Sheet.{Sheet, Ranges}
 use Rattle.frame.specs.Table.{energy_cells, temperature_cells, need, word_at}
 use Rattle.table.specs.Table.{cells, base}
-use Rattle.word.specs.Word.{settled}
-use Rattle.open_ways.specs.Moves.{Moving, Lows, relaxed_at}
+use Rattle.store.specs.Store.{changes_max}
+use Rattle.word.specs.Word.{far, settled}
+use Rattle.open_ways.specs.declared.Move.{Move}
+use Rattle.open_ways.specs.Moves.{Moving, relaxed_at}
 use Rattle.relax.specs.Levels.{Levels}
-use Rattle.moves.specs.Moves.{Room, Moves}
+use Rattle.moves.specs.Moves.{Moves}
 use Rattle.follow.specs.Follow.{Expanded}
 use Rattle.table.proofs.Places.{base_level, base_next, base_mono, base_need}
 use Rattle.fill.specs.Layer.{FilledFrom}
 use Rattle.fill.proofs.Layering.{moving, lows, relaxed_word}
 
-module _ (s : Sheet) (ok : Ranges s) (i : ℕ) (hi : i < s.jobs) {shifts reaches times old mid new : List ℕ}
-    (w : Moves s i (s.levels * s.levels) shifts reaches times) (x : Expanded s i old mid)
-    (v : Levels mid new (base s i 0) s.levels (cells s) 0 (cells s) (λ (p y : ℕ). settled (relaxed_at shifts reaches times mid s.levels (cells s) (base s i 0) p s.levels y)))
+module _ (s : Sheet) (ok : Ranges s) (i : ℕ) (hi : i < s.jobs) {moves : List Move} {old mid new : List ℕ}
+    (w : Moves s i (s.levels * s.levels) moves) (x : Expanded s i old mid)
+    (v : Levels mid new (base s i 0) s.levels (cells s) 0 (cells s) (λ (p y : ℕ). settled (relaxed_at moves mid s.levels (cells s) (base s i 0) p s.levels y)))
     (f : FilledFrom s (base s (suc i) 0) old old) where
   cells_some : 0 < cells s
   unfolding cells energy_cells temperature_cells
@@ -60,18 +62,18 @@ module _ (s : Sheet) (ok : Ranges s) (i : ℕ) (hi : i < s.jobs) {shifts reaches
 
 -- ---- the same by the numbers that the code has
 
-module _ (s : Sheet) (ok : Ranges s) (i : ℕ) (hi : i < s.jobs) {shifts reaches times : List ℕ} (w : Moves s i (s.levels * s.levels) shifts reaches times)
+module _ (s : Sheet) (ok : Ranges s) (i : ℕ) (hi : i < s.jobs) {moves : List Move} (w : Moves s i (s.levels * s.levels) moves)
     {levels width at : ℕ} (l : levels ≡ s.levels) (c : width ≡ cells s) (a : at ≡ base s i 0) where
-  pub moving_by : Room shifts reaches times → Moving levels width shifts reaches times
+  pub moving_by : changes_max ≤ length moves → Moving levels width moves
   moving_by r = rw (l, c) (moving s ok i hi w r)
 
   pub room_by : at + levels * width ≤ need s
   room_by = rw (l, c, a) (omega (arith, base_next s i 0, base_mono s (suc i) s.jobs (omega arith), base_need s))
 
   module _ {old mid : List ℕ} (x : Expanded s i old mid) where
-    pub lows_by : Lows levels width at 0 mid
+    pub lows_by : (j y : ℕ) → j < levels → 0 ≤ y → y < width → get_or mid (at + j * width + y) 0 ≤ far
     lows_by = rw (l, c, a) (lows s ok i hi w x.ahead)
 
     pub filled_by : {new : List ℕ} → FilledFrom s (base s (suc i) 0) old old →
-        Levels mid new at levels width 0 width (λ (p y : ℕ). settled (relaxed_at shifts reaches times mid levels width at p levels y)) → FilledFrom s (base s i 0) old new
+        Levels mid new at levels width 0 width (λ (p y : ℕ). settled (relaxed_at moves mid levels width at p levels y)) → FilledFrom s (base s i 0) old new
     filled_by f v = filled_job s ok i hi w x (rw (l, c, a) at v) f

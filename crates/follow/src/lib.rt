@@ -3,60 +3,44 @@
 ghost use Rattle.std.specs.Prelude.{◌≡◌, suc, ◌≤◌, ◌<◌, length};
 ghost use Rattle.frame.specs.Sheet.{Sheet};
 ghost use Rattle.frame.specs.Table.{need};
-ghost use Rattle.store.specs.Figures.{sheet_of};
-ghost use Rattle.table.specs.Table.{Framed, Holds};
+ghost use Rattle.table.specs.Table.{Holds};
+ghost use Rattle.table.specs.Problem.{sheet_for};
 ghost use Rattle.follow.specs.Follow.{Follows, Expanded};
 
+use cell_map::Rows;
 use next_cells::map_cells;
-use store::{LEVELS_MAX, STORE_SIZE};
-use table::Frame;
+use table::Problem;
 
 // Writes what follows job i at level j in the place of that level's words. The map of temperature cells stands in the last row
 // until that row is written itself.
-fn expand_level(
-    f: Frame,
-    store: &[u32; STORE_SIZE],
-    steady: &[u32; LEVELS_MAX],
-    table: &mut [u32],
-    i: u32,
-    j: u32,
-)
-    requires { let s = sheet_of f.head store.now in record {
-      framed : Framed s f store.now steady.now;
+fn expand_level(problem: &Problem, table: &mut [u32], i: u32, j: u32)
+    requires { let s = sheet_for problem.now in record {
       room : need s ≤ length table.old;
       job : i < s.jobs;
       level : j < s.levels;
       next : Holds s table.old (suc i);
     } }
-    ensures { let s = sheet_of f.head store.now in Follows s i j table.old table.new }
+    ensures { let s = sheet_for problem.now in Follows s i j table.old table.new }
 {
-    let rows = f.energy_cells;
-    let width = f.temperature_cells;
-    let levels = f.head.levels as usize;
-    let at = (i as usize * levels + j as usize) * rows * width;
-    map_cells(f, store, steady, table, i, j, at + (rows - 1) * width);
-    if i + 1 < f.head.jobs {
-        expand::gather_rows(table, at, rows, width, at + levels * rows * width);
+    let count = problem.frame.energy_cells;
+    let width = problem.frame.temperature_cells;
+    let levels = problem.frame.head.levels as usize;
+    let at = (i as usize * levels + j as usize) * count * width;
+    let rows = Rows { at, count, width };
+    map_cells(problem, table, i, j, rows.last_row());
+    if i + 1 < problem.frame.head.jobs {
+        expand::gather_rows(table, rows, at + levels * count * width);
     } else {
-        expand::finish_rows(table, at, rows, width);
+        expand::finish_rows(table, rows);
     }
 }
 
 // The same for all levels.
-pub fn expand_job(
-    f: Frame,
-    store: &[u32; STORE_SIZE],
-    steady: &[u32; LEVELS_MAX],
-    table: &mut [u32],
-    i: u32,
-)
-    requires { let s = sheet_of f.head store.now in record { framed : Framed s f store.now steady.now; room : need s ≤ length table.old; job : i < s.jobs; next : Holds s table.old (suc i) } }
-    ensures { let s = sheet_of f.head store.now in Expanded s i table.old table.new }
+pub fn expand_job(problem: &Problem, table: &mut [u32], i: u32)
+    requires { let s = sheet_for problem.now in record { room : need s ≤ length table.old; job : i < s.jobs; next : Holds s table.old (suc i) } }
+    ensures { let s = sheet_for problem.now in Expanded s i table.old table.new }
 {
-    let levels = f.head.levels;
-    let mut j: u32 = 0;
-    while j < levels {
-        expand_level(f, store, steady, table, i, j);
-        j += 1;
+    for j in 0..problem.frame.head.levels {
+        expand_level(problem, table, i, j);
     }
 }

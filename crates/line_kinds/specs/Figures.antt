@@ -1,58 +1,60 @@
 -- A line of numbers, by its kind, and where its figures go (document 01, 'The sheet'): "L, power P", "S, time, energy of a change",
 -- "B, time .., energy .., decay ..".
 -- Assumes nothing.
-use Rattle.std.specs.Prelude.{◌≡◌, cond, List, ◌∷◌, ℕ, ◌+◌, ◌<◌, eqb, ltb, length, get_or, set, replicate}
+use Rattle.std.specs.Prelude.{◌≡◌, cond, List, [], ◌∷◌, ℕ, ◌+◌, ◌<◌, eqb, ltb, length, get_or, set, Result, Ok, Err}
 use Rattle.frame.specs.Sheet.{temperature_max, power_max, cost_max, decay_max}
 use Rattle.store.specs.Store.{levels_max, changes_max, works_max, powers, change_times, change_energies, job_times, job_energies, decays, store_size}
 use Rattle.thermal.specs.Thermal.{steady_state}
-use Rattle.fields.specs.Fields.{Fields, fields_of, after}
-use Rattle.fields.specs.declared.Fault.TheVariants.{Range}
+use Rattle.fields.specs.Fields.{from_to, fields_of, after}
+use Rattle.fields.specs.declared.Fault.{Fault}
+use Rattle.fields.specs.declared.Fault.TheVariants.{Range as OutOfRange}
+use Rattle.fields.specs.declared.Range.{Range}
 use Rattle.line_kinds.specs.declared.Kind.{Kind}
 use Rattle.line_kinds.specs.declared.Kind.TheVariants.{Level, Change, Work}
+use Rattle.line_kinds.specs.declared.Entry.{Entry}
+use Rattle.line_kinds.specs.declared.Entry.TheVariants.{Level as LevelEntry, Change as ChangeEntry, Work as WorkEntry}
 
--- The ends of the ranges of a line's numbers: the upper ends of an L line's and of an S line's, and both of a B line's.
-abbrev pub level_hi : List ℕ
-level_hi = power_max ∷ replicate 9 0
+-- The range of both numbers of an S line, of the change from level p to level j: "From a level to itself both must be 0".
+abbrev pub cost_range : ℕ → ℕ → Range
+cost_range p j = cond (eqb j p) (from_to 0 0) (from_to 0 cost_max)
 
-abbrev pub change_hi : List ℕ
-change_hi = cost_max ∷ cost_max ∷ replicate 8 0
+-- The ranges of the numbers of an L line, of an S line and of a B line.
+abbrev pub level_ranges : List Range
+level_ranges = from_to 0 power_max ∷ []
 
-abbrev pub work_lo : List ℕ
-work_lo = 1 ∷ replicate 9 0
+abbrev pub change_ranges : ℕ → ℕ → List Range
+change_ranges p j = cost_range p j ∷ cost_range p j ∷ []
 
-abbrev pub work_hi : List ℕ
-work_hi = cost_max ∷ cost_max ∷ decay_max ∷ replicate 7 0
+abbrev pub work_ranges : List Range
+work_ranges = from_to 1 cost_max ∷ from_to 0 cost_max ∷ from_to 0 decay_max ∷ []
 
 -- The steady-state temperature "must be at most 20,000; else the fault is a range fault of this field".
-unfoldable pub steady_fields : ℕ → Fields → Fields
-steady_fields resistance fields =
-    after fields.fault fields
-    (cond (ltb temperature_max (steady_state (get_or fields.values 0 0) resistance)) (record { fault = Range 2; values = fields.values; rest = fields.rest }) fields)
+unfoldable pub steady_fields : ℕ → ℕ → Result Entry Fault
+steady_fields resistance power = cond (ltb temperature_max (steady_state power resistance)) (Err (OutOfRange 2)) (Ok (LevelEntry power))
 
 -- "L, power P (0 to 100,000)"; L is byte 76
-unfoldable pub level_fields : ℕ → List ℕ → Fields
-level_fields resistance line = steady_fields resistance (fields_of 76 1 (replicate 10 0) level_hi line)
+unfoldable pub level_fields : ℕ → List ℕ → Result Entry Fault
+level_fields resistance line = after (fields_of 76 level_ranges line) Err (λ vs. steady_fields resistance (get_or vs 0 0))
 
--- "S, time, energy of a change (each 0 to 10,000,000)"; "From a level to itself both must be 0"; S is byte 83
-unfoldable pub change_fields : ℕ → ℕ → List ℕ → Fields
-change_fields p j line =
-    fields_of 83 2 (replicate 10 0) (cond (eqb j p) (replicate 10 0) change_hi) line
+-- "S, time, energy of a change (each 0 to 10,000,000)"; S is byte 83
+unfoldable pub change_fields : ℕ → ℕ → List ℕ → Result Entry Fault
+change_fields p j line = after (fields_of 83 (change_ranges p j) line) Err (λ vs. Ok (ChangeEntry (get_or vs 0 0) (get_or vs 1 0)))
 
 -- "B, time (1 to 10,000,000), energy (0 to 10,000,000), decay (0 to 65,536)"; B is byte 66
-unfoldable pub work_fields : List ℕ → Fields
-work_fields line = fields_of 66 3 work_lo work_hi line
+unfoldable pub work_fields : List ℕ → Result Entry Fault
+work_fields line = after (fields_of 66 work_ranges line) Err (λ vs. Ok (WorkEntry (get_or vs 0 0) (get_or vs 1 0) (get_or vs 2 0)))
 
 -- Line j, from 0, of the lines of a kind.
-unfoldable pub fields_for : Kind → ℕ → List ℕ → Fields
+unfoldable pub fields_for : Kind → ℕ → List ℕ → Result Entry Fault
 fields_for (Level resistance) j line = level_fields resistance line
 fields_for (Change p) j line = change_fields p j line
 fields_for Work j line = work_fields line
 
--- The store with the values of a line put in place k.
-unfoldable pub put : Kind → ℕ → List ℕ → List ℕ → List ℕ
-put (Level resistance) k vs st = set st (powers + k) (get_or vs 0 0)
-put (Change p) k vs st = set (set st (change_times + k) (get_or vs 0 0)) (change_energies + k) (get_or vs 1 0)
-put Work k vs st = set (set (set st (job_times + k) (get_or vs 0 0)) (job_energies + k) (get_or vs 1 0)) (decays + k) (get_or vs 2 0)
+-- The store with what a line says put in place k.
+unfoldable pub put : ℕ → Entry → List ℕ → List ℕ
+put k (LevelEntry power) st = set st (powers + k) power
+put k (ChangeEntry time energy) st = set (set st (change_times + k) time) (change_energies + k) energy
+put k (WorkEntry time energy decay) st = set (set (set st (job_times + k) time) (job_energies + k) energy) (decays + k) decay
 
 -- How many places the store has for a kind.
 abbrev pub places_of : Kind → ℕ
@@ -60,7 +62,13 @@ places_of (Level resistance) = levels_max
 places_of (Change p) = changes_max
 places_of Work = works_max
 
--- Place k is one of the kind's, in a store of all figures.
-pub record PlaceIn (kind : Kind) (k : ℕ) (st : List ℕ) : Type 0 where
-  pub place : k < places_of kind
+-- The same for what a line says.
+abbrev pub places_for : Entry → ℕ
+places_for (LevelEntry power) = levels_max
+places_for (ChangeEntry time energy) = changes_max
+places_for (WorkEntry time energy decay) = works_max
+
+-- Place k is one for what a line says, in a store of all figures.
+pub record PlaceIn (entry : Entry) (k : ℕ) (st : List ℕ) : Type 0 where
+  pub place : k < places_for entry
   pub long : length st ≡ store_size

@@ -1,15 +1,14 @@
 #![tactic(auto)]
 
-ghost use Rattle.std.specs.Prelude.{◌≡◌, ◌≤◌, length};
-ghost use Rattle.text.specs.Text.{part, count};
-ghost use Rattle.fields.specs.Fields.{numbers_in};
-ghost use Rattle.line_kinds.specs.Figures.{level_fields, fields_for, put, PlaceIn};
+ghost use Rattle.std.specs.Prelude.{◌≡◌};
+ghost use Rattle.line_kinds.specs.Figures.{cost_range, level_fields, fields_for, put, PlaceIn};
 
-use fields::{Fault, Numbers};
+use fields::{Fault, Range};
 use store::{
     CHANGE_ENERGIES, CHANGE_TIMES, COST_MAX, DECAY_MAX, DECAYS, JOB_ENERGIES, JOB_TIMES, POWER_MAX,
     POWERS, TEMPERATURE_MAX,
 };
+use text::Line;
 
 // Which lines: L, with the sheet's thermal resistance; S, of the changes from a level; B.
 #[derive(Clone, Copy)]
@@ -19,82 +18,92 @@ pub enum Kind {
     Work,
 }
 
+// What a line says: the power of a level; the time and the energy of a change; the time, the energy and the decay of a job.
+#[derive(Clone, Copy)]
+pub enum Entry {
+    Level(u32),
+    Change(u32, u32),
+    Work(u32, u32, u32),
+}
+
 // The steady-state temperature "must be at most 20,000".
 pub const STEADY_STATE_MAX: u64 = TEMPERATURE_MAX as u64;
 
-const LEVEL_HI: [u32; 10] = [POWER_MAX, 0, 0, 0, 0, 0, 0, 0, 0, 0];
+pub const POWER: Range = Range {
+    least: 0,
+    most: POWER_MAX,
+};
 
-const CHANGE_HI: [u32; 10] = [COST_MAX, COST_MAX, 0, 0, 0, 0, 0, 0, 0, 0];
+pub const COST: Range = Range {
+    least: 0,
+    most: COST_MAX,
+};
 
-const WORK_LO: [u32; 10] = [1, 0, 0, 0, 0, 0, 0, 0, 0, 0];
+const NO_COST: Range = Range { least: 0, most: 0 };
 
-const WORK_HI: [u32; 10] = [COST_MAX, COST_MAX, DECAY_MAX, 0, 0, 0, 0, 0, 0, 0];
+pub const JOB_TIME: Range = Range {
+    least: 1,
+    most: COST_MAX,
+};
+
+pub const DECAY: Range = Range {
+    least: 0,
+    most: DECAY_MAX,
+};
 
 // Reads an L line: its power, and the steady-state temperature that it gives, are in range.
-fn read_level(s: &[u8], from: usize, to: usize, tabs: usize, resistance: u32) -> Numbers
-    requires { (from ≤ to) × (to ≤ length s.now) × (tabs ≡ count 9 (part from to s.now)) }
-    ensures { numbers_in s.now to result ≡ level_fields resistance (part from to s.now) }
+fn read_level(line: Line, resistance: u32) -> Result<Entry, Fault>
+    ensures { result ≡ level_fields resistance line.entry.bytes.now }
 {
-    let lo = [0u32; 10];
-    let hi = LEVEL_HI;
-    let r = fields::read_fields(s, from, to, tabs, b'L', 1, lo, hi);
-    let f = r.fault;
-    let Fault::Sound = f else {
-        return r;
-    };
-    let values = r.values;
-    if STEADY_STATE_MAX < thermal::steady_state(values[0], resistance) {
-        let next = r.next;
-        return Numbers {
-            fault: Fault::Range(2),
-            values,
-            next,
-        };
+    let [power] = fields::read_fields(line, b'L', [POWER])?;
+    if STEADY_STATE_MAX < thermal::steady_state(power, resistance) {
+        return Err(Fault::Range(2));
     }
-    r
+    Ok(Entry::Level(power))
+}
+
+// The range of the time and of the energy of a change from level p to level i: "From a level to itself both must be 0".
+pub fn cost_range(p: usize, i: usize) -> Range
+    ensures { result ≡ cost_range p i }
+{
+    if i == p { NO_COST } else { COST }
 }
 
 // Reads line i, from 0, of the lines of a kind.
-pub fn read_line(s: &[u8], from: usize, to: usize, tabs: usize, kind: Kind, i: usize) -> Numbers
-    requires { (from ≤ to) × (to ≤ length s.now) × (tabs ≡ count 9 (part from to s.now)) }
-    ensures { numbers_in s.now to result ≡ fields_for kind i (part from to s.now) }
+pub fn read_line(line: Line, kind: Kind, i: usize) -> Result<Entry, Fault>
+    ensures { result ≡ fields_for kind i line.entry.bytes.now }
 {
     match kind {
-        Kind::Level(resistance) => read_level(s, from, to, tabs, resistance),
+        Kind::Level(resistance) => read_level(line, resistance),
         Kind::Change(p) => {
-            let lo = [0u32; 10];
-            if i == p {
-                let hi = [0u32; 10];
-                return fields::read_fields(s, from, to, tabs, b'S', 2, lo, hi);
-            }
-            let hi = CHANGE_HI;
-            fields::read_fields(s, from, to, tabs, b'S', 2, lo, hi)
+            let range = cost_range(p, i);
+            let [time, energy] = fields::read_fields(line, b'S', [range, range])?;
+            Ok(Entry::Change(time, energy))
         }
         Kind::Work => {
-            let lo = WORK_LO;
-            let hi = WORK_HI;
-            fields::read_fields(s, from, to, tabs, b'B', 3, lo, hi)
+            let [time, energy, decay] = fields::read_fields(line, b'B', [JOB_TIME, COST, DECAY])?;
+            Ok(Entry::Work(time, energy, decay))
         }
     }
 }
 
-// Puts the values of a line in place k of the store of figures.
-pub fn put_values(store: &mut [u32], kind: Kind, k: usize, values: [u32; 10])
-    requires { PlaceIn kind k store.old }
-    ensures { store.new ≡ put kind k values store.old }
+// Puts what a line says in place k of the store of figures.
+pub fn put_entry(store: &mut [u32], k: usize, entry: Entry)
+    requires { PlaceIn entry k store.old }
+    ensures { store.new ≡ put k entry store.old }
 {
-    match kind {
-        Kind::Level(_) => {
-            store[POWERS + k] = values[0];
+    match entry {
+        Entry::Level(power) => {
+            store[POWERS + k] = power;
         }
-        Kind::Change(_) => {
-            store[CHANGE_TIMES + k] = values[0];
-            store[CHANGE_ENERGIES + k] = values[1];
+        Entry::Change(time, energy) => {
+            store[CHANGE_TIMES + k] = time;
+            store[CHANGE_ENERGIES + k] = energy;
         }
-        Kind::Work => {
-            store[JOB_TIMES + k] = values[0];
-            store[JOB_ENERGIES + k] = values[1];
-            store[DECAYS + k] = values[2];
+        Entry::Work(time, energy, decay) => {
+            store[JOB_TIMES + k] = time;
+            store[JOB_ENERGIES + k] = energy;
+            store[DECAYS + k] = decay;
         }
     }
 }

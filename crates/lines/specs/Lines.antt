@@ -1,12 +1,12 @@
 -- Blocks of lines of numbers (document 01, 'The sheet'): "l lines L", "l × l lines S", "l lines B", and the figures that they leave in
 -- the store.
 -- Assumes nothing.
-use Rattle.std.specs.Prelude.{◌≡◌, cond, List, ℕ, zero, suc, ◌+◌, ◌≤◌, ◌^◌, length, drop}
+use Rattle.std.specs.Prelude.{◌≡◌, cond, List, ℕ, zero, suc, ◌+◌, ◌≤◌, ◌^◌, length, drop, Option, Some, None}
 use Rattle.store.specs.Store.{store_size}
 use Rattle.text.specs.Text.{until, beyond, ahead}
-use Rattle.fields.specs.Fields.{Fields, after}
+use Rattle.fields.specs.Fields.{after}
 use Rattle.fields.specs.declared.Fault.{Fault}
-use Rattle.fields.specs.declared.Fault.TheVariants.{Sound, Shape}
+use Rattle.fields.specs.declared.Fault.TheVariants.{Shape}
 use Rattle.line_kinds.specs.declared.Kind.{Kind}
 use Rattle.line_kinds.specs.Figures.{fields_for, put}
 use Rattle.lines.specs.declared.Stop.{Stop}
@@ -17,7 +17,7 @@ count_end = 2 ^ 64
 
 -- Lines read: the first fault or none, the line where the reading stopped, the text from that line on, and the store.
 pub record Found : Type 0 where
-  pub fault : Fault
+  pub fault : Option Fault
   pub line : ℕ
   pub rest : List ℕ
   pub store : List ℕ
@@ -25,13 +25,12 @@ pub record Found : Type 0 where
 -- The next n lines of a kind, from its line j on, of the text t, whose next line is line ln; the figures go to place from
 -- b + j on. A line is missing where there is "no byte 10 ahead".
 unfoldable pub block_from : Kind → ℕ → ℕ → ℕ → List ℕ → ℕ → List ℕ → Found
-block_from kind b zero j t ln st = record { fault = Sound; line = ln; rest = t; store = st }
+block_from kind b zero j t ln st = record { fault = None; line = ln; rest = t; store = st }
 block_from kind b (suc n) j t ln st =
-    let fields : Fields = fields_for kind j (until 10 t) in
     cond (ahead 10 t)
-    (after fields.fault (record { fault = fields.fault; line = ln; rest = t; store = st })
-    (block_from kind b n (j + 1) (beyond 10 t) (ln + 1) (put kind (b + j) fields.values st)))
-    (record { fault = Shape; line = ln; rest = t; store = st })
+    (after (fields_for kind j (until 10 t)) (λ f. record { fault = Some f; line = ln; rest = t; store = st })
+    (λ entry. block_from kind b n (j + 1) (beyond 10 t) (ln + 1) (put (b + j) entry st)))
+    (record { fault = Some Shape; line = ln; rest = t; store = st })
 
 -- What was read of the text s, with the store that it left.
 abbrev pub found_in : List ℕ → Stop → List ℕ → Found

@@ -1,8 +1,10 @@
 -- Which lines of a block are taken in one pass over their bytes, and what they leave.
 -- Assumes nothing.
-use Rattle.std.specs.Prelude.{cond, List, ℕ, zero, suc, ◌+◌}
+use Rattle.std.specs.Prelude.{List, ℕ, zero, suc, ◌+◌, drop}
+use Rattle.std.specs.Option.{option_map, unwrap_or}
 use Rattle.line_kinds.specs.declared.Kind.{Kind}
-use Rattle.fast_lines.specs.Take.{takes_line, line_after, store_after}
+use Rattle.line_kinds.specs.Figures.{put}
+use Rattle.fast_lines.specs.Take.{entry_taken}
 use Rattle.lines.specs.declared.Progress.{Progress}
 
 -- Lines that were taken: how many of their block, the place of the next one, and the store.
@@ -16,7 +18,7 @@ pub record Took : Type 0 where
 unfoldable pub taken_from : Kind → ℕ → ℕ → ℕ → List ℕ → ℕ → List ℕ → Took
 taken_from kind b zero j s p st = record { lines = j; at = p; store = st }
 taken_from kind b (suc n) j s p st =
-    cond (takes_line kind j s p) (taken_from kind b n (j + 1) s (line_after s p) (store_after kind j s p (b + j) st))
+    unwrap_or (option_map (λ line. taken_from kind b n (j + 1) s (p + line.1) (put (b + j) line.0 st)) (entry_taken kind j (drop p s)))
     (record { lines = j; at = p; store = st })
 
 -- What was taken, with the store that it left.

@@ -6,14 +6,13 @@ ghost use Rattle.line_kinds.specs.Figures.{places_of};
 ghost use Rattle.lines.specs.Lines.{count_end, block_from, Reads};
 ghost use Rattle.lines.specs.Take.{taken_from, took_in};
 
-use fast_lines::Next;
 use fields::Fault;
 use line_kinds::Kind;
 
 // Where the reading of lines stopped: at which fault or none, in which line, counted from 1, and at which place.
 #[derive(Drop)]
 pub struct Stop {
-    pub fault: Fault,
+    pub fault: Option<Fault>,
     pub line: usize,
     pub at: usize,
 }
@@ -31,16 +30,14 @@ fn take_lines(s: &[u8], at: usize, kind: Kind, base: usize, n: usize, store: &mu
     ensures { took_in result store.new ≡ taken_from kind base n 0 s.now at store.old }
 {
     let mut p = at;
-    let mut j: usize = 0;
-    while j < n {
-        let t = fast_lines::take_line(s, p, kind, j, base + j, store);
-        let Next::Line(q) = t else {
-            break;
+    for j in 0..n {
+        let Some((entry, length)) = fast_lines::take_line(&s[p..], kind, j) else {
+            return Progress { lines: j, at: p };
         };
-        p = q;
-        j += 1;
+        line_kinds::put_entry(store, base + j, entry);
+        p += length;
     }
-    Progress { lines: j, at: p }
+    Progress { lines: n, at: p }
 }
 
 // Reads n lines of a kind from line `line`, which starts at `at`, to the places from `base` on.
@@ -58,34 +55,28 @@ pub fn read_block(
 {
     let usual = take_lines(s, at, kind, base, n, store);
     let mut p = usual.at;
-    let mut j = usual.lines;
-    while j < n {
-        let l = text::scan_line(s, p);
-        let e = l.end;
-        if e == s.len() {
+    for j in usual.lines..n {
+        let Some(next) = text::next_line(&s[p..]) else {
             return Stop {
-                fault: Fault::Shape,
-                line: line + j,
-                at: p,
-            };
-        }
-        let tabs = l.tabs;
-        let numbers = line_kinds::read_line(s, p, e, tabs, kind, j);
-        let f = numbers.fault;
-        let Fault::Sound = f else {
-            return Stop {
-                fault: f,
+                fault: Some(Fault::Shape),
                 line: line + j,
                 at: p,
             };
         };
-        let values = numbers.values;
-        line_kinds::put_values(store, kind, base + j, values);
-        p = e + 1;
-        j += 1;
+        match line_kinds::read_line(next, kind, j) {
+            Ok(entry) => line_kinds::put_entry(store, base + j, entry),
+            Err(fault) => {
+                return Stop {
+                    fault: Some(fault),
+                    line: line + j,
+                    at: p,
+                };
+            }
+        }
+        p += next.bytes.len() + 1;
     }
     Stop {
-        fault: Fault::Sound,
+        fault: None,
         line: line + n,
         at: p,
     }

@@ -1,14 +1,18 @@
 -- Laws of the first level that is too high, by induction over the list.
 -- Assumes nothing.
-use mathlib.Core.Path.{◌≡◌, refl, ap, ◌∙◌}
+use mathlib.Core.Path.{◌≡◌, refl, sym, ap, ◌∙◌}
 use mathlib.Core.List.{List, [], ◌∷◌}
 use Prim.Native.Nat.{ℕ, zero, suc, ◌+◌, ◌≤◌, ◌<◌}
-use native.Mathlib.Numerals.{add-one}
 use native.Mathlib.Decide.{dec_lt}
+use mathlib.Core.Bool.{cond}
 use native.Mathlib.Omega.{arith}
-use lib.ListN.{length, get_or, drop, drop_of_length-le}
-use lib.Seq.{drop-cons}
-use borrow.Author.Tests.{le-leb, lt-leb}
+use lib.Dec.{leb, ltb}
+use lib.ListN.{length, get_or}
+use borrow.Author.Tests.{le-leb, lt-leb, lt-ltb, ltb-true}
+use Rattle.std.specs.Prelude.{Option, Some, None}
+use Rattle.std.specs.List.{position, position_or_len}
+use Rattle.std.proofs.lemmas.List.Recursion.{is_position_or_len}
+use Rattle.std.proofs.lemmas.Option.{none-some, cond_some}
 use Rattle.frame.specs.Demands.{Below}
 use Rattle.measure.specs.Measure.{first_above}
 
@@ -20,17 +24,28 @@ above_on : (l : ℕ) (js : List ℕ) (j : ℕ) → j < l → first_above l (j �
 unfolding first_above
 above_on l js j h = rw (lt-leb l j h) refl
 
-module _ (l : ℕ) (levels : List ℕ) (i : ℕ) where
-  pub found_above : i < length levels → l ≤ get_or levels i 0 → i + first_above l (drop i levels) ≡ i
-  found_above h k = omega (arith, ap (first_above l) (drop-cons levels i 0 h) ∙ above_here l (drop (suc i) levels) (get_or levels i 0) k)
+-- ---- the library's search
 
-  pub found_below : i < length levels → get_or levels i 0 < l → i + first_above l (drop i levels) ≡ (i + 1) + first_above l (drop (i + 1) levels)
-  found_below h k =
-      rw (add-one i) (omega (arith, ap (first_above l) (drop-cons levels i 0 h) ∙ above_on l (drop (suc i) levels) (get_or levels i 0) k))
+above_position : (l : ℕ) (js : List ℕ) → first_above l js ≡ position_or_len (leb l) js
+unfolding first_above
+above_position l js = is_position_or_len (first_above l) (leb l) refl (λ j js. let z : suc (first_above l js) ≡ 1 + first_above l js = omega arith in ap (λ (n : ℕ). cond (leb l j) 0 n) z) js
 
-  pub found_none : length levels ≤ i → i + first_above l (drop i levels) ≡ i
-  unfolding first_above
-  found_none h = omega (arith, ap (first_above l) (drop_of_length-le levels h))
+module _ (l : ℕ) (js : List ℕ) {o : Option ℕ} (e : o ≡ position (leb l) js) where
+  -- The place that it finds.
+  pub found_place : (k : ℕ) → o ≡ Some k → (k ≡ first_above l js) × (k < length js)
+  found_place k h =
+      let p = cond_some (ltb (position_or_len (leb l) js) (length js)) (position_or_len (leb l) js) k (sym e ∙ h) in
+      (sym (above_position l js ∙ p.1), omega (arith, ltb-true _ _ p.0, p.1))
+
+  -- It finds none.
+  pub no_place : o ≡ None → length js ≤ first_above l js
+  no_place h =
+      elim (dec_lt (position_or_len (leb l) js) (length js)) [
+        | yes b ↦
+            let q : position (leb l) js ≡ Some (position_or_len (leb l) js) = rw (lt-ltb (position_or_len (leb l) js) (length js) b) refl in
+            absurd (none-some _ (sym h ∙ e ∙ q))
+        | no b ↦ omega (arith, above_position l js, b)
+      ]
 
 -- ---- what the first place says of the list
 

@@ -1,7 +1,7 @@
 -- The measuring call in words follows from its equation, and leaves no other answer: by the four ways of the definition, each of
 -- which the words tell apart by the reply's number.
 -- Assumes nothing.
-use mathlib.Core.Path.{◌≡◌, refl, ap, ◌∙◌}
+use mathlib.Core.Path.{◌≡◌, refl, sym, ap, ◌∙◌}
 use mathlib.Core.Bool.{cond}
 use mathlib.Core.List.{List}
 use Prim.Native.Nat.{ℕ, ◌≤◌, ◌<◌}
@@ -15,11 +15,10 @@ use Rattle.frame.specs.Demands.{Below}
 use Rattle.frame.specs.Limits.{margins}
 use Rattle.frame.proofs.Margins.{margins_met, margins_meet}
 use Rattle.fields.proofs.Within.{cond_cases}
-use Rattle.refusal.specs.Code.{number_of}
+use Rattle.std.proofs.lemmas.Option.{none-some}
 use Rattle.refusal.proofs.Apart.{accepted_ways, accepted_refused}
 use Rattle.sheet.specs.Reading.{reading_of, sheet_in}
-use Rattle.measure.specs.declared.Measured.{Measured}
-use Rattle.measure.specs.Measure.{first_above, refused_measured, measured_as, turned_away, measure_of}
+use Rattle.measure.specs.Measure.{Measured, first_above, refused_measured, measured_as, turned_away, measure_of}
 use Rattle.measure.specs.Meaning.{Judged, Meaning}
 use Rattle.measure.proofs.Levels.{above_at, below_before, none_below, below_none}
 
@@ -89,9 +88,9 @@ measure_means : (t js : List ℕ) → Meaning t js (measure_of t js)
 unfolding measure_of
 measure_means t js =
     record {
-      fails = λ n. accepted_refused (reading_of t).refusal turned_away _ n;
+      fails = λ f n. accepted_refused turned_away _ n;
       passes = λ e.
-          accepted_ways (Judged (sheet_in t) js) (reading_of t).refusal turned_away _ (λ l h. absurd (omega (arith, l, ap number_of e))) (λ z. judged (sheet_in t) js);
+          accepted_ways (Judged (sheet_in t) js) (reading_of t).refusal turned_away _ (λ f h. absurd (none-some f (sym e ∙ h))) (λ z. judged (sheet_in t) js);
     }
 
 -- Beside the equation, the words.
@@ -129,5 +128,5 @@ judged_only s js q w =
 pub meaning_unique : (t js : List ℕ) (q : Measured) → Meaning t js q → q ≡ measure_of t js
 unfolding measure_of
 meaning_unique t js q w =
-    accepted_ways (λ x. q ≡ x) (reading_of t).refusal turned_away _ (λ l h. w.fails (λ e. omega (arith, l, ap number_of e)))
+    accepted_ways (λ x. q ≡ x) (reading_of t).refusal turned_away _ (λ f h. w.fails f h)
     (λ e. judged_only (sheet_in t) js q (w.passes e))

@@ -11,10 +11,9 @@ use Rattle.fields.proofs.Within.{cond_cases}
 use Rattle.refusal.proofs.Apart.{accepted_ways}
 use Rattle.body.specs.Body.{end_line}
 use Rattle.sheet.specs.Reading.{reading_of, sheet_in}
-use Rattle.sheet.proofs.Places.{refusal_line_most, refusal_field}
+use Rattle.sheet.proofs.Whole.{read_refused}
 use Rattle.sheet.proofs.Ranges.{read_ranges}
-use Rattle.measure.specs.declared.Measured.{Measured}
-use Rattle.measure.specs.Measure.{first_above, turned_away, measure_of}
+use Rattle.measure.specs.Measure.{Measured, first_above, turned_away, measure_of}
 
 -- A line of the sheet or the next, and a field of it or a place in the list.
 pub record Near (q : Measured) : Type 0 where
@@ -26,7 +25,7 @@ unfolding measure_of
 measured_near t js =
     let s = sheet_in t in
     let place = first_above s.levels js in
-    accepted_ways Near (reading_of t).refusal turned_away _ (λ l h. record { line = refusal_line_most t; field = omega (arith, refusal_field t) })
+    accepted_ways Near (reading_of t).refusal turned_away _ (λ f h. let w = read_refused t f h in record { line = w.line; field = omega (arith, w.field) })
     (λ e. cond_cases Near (eqb (length js) s.jobs) _ _
     (λ m. cond_cases Near (ltb place (length js)) _ _
     (λ l. omega (arith, ltb-true place (length js) l, eqb-true (length js) s.jobs m, (read_ranges t e).jobs.high)) (λ l. omega arith))

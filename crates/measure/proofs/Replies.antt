@@ -13,11 +13,9 @@ use Rattle.frame.specs.Run.{State, start, exact_run}
 use Rattle.frame.specs.Limits.{margins}
 use Rattle.store.specs.Figures.{sheet_of}
 use Rattle.run.proofs.Small.{small_start, small_run}
-use Rattle.refusal.specs.declared.Refusal.TheVariants.{Nothing}
-use Rattle.refusal.specs.declared.RefusalCode.{RefusalCode}
-use Rattle.refusal.specs.Code.{number_of, line_of, field_of, code_as}
-use Rattle.refusal.proofs.Apart.{Refuses, accepted_refused}
-use Rattle.sheet.specs.declared.Reading.{Reading}
+use Rattle.std.specs.Prelude.{Result, Ok, Err}
+use Rattle.store.specs.declared.Head.{Head}
+use Rattle.refusal.specs.declared.Refusal.{Refusal}
 use Rattle.sheet.specs.Reading.{read_in, reading_of}
 use Rattle.sheet.proofs.Ranges.{reading_ranges}
 use Rattle.measure.specs.Measure.{first_above, Measurable, refused_measured, measured_as, turned_away, measure_of}
@@ -44,30 +42,30 @@ margins_hold s js a h time energy temperature x y z = rw (x, y, z, h) refl
 
 -- ---- the reply
 
-module _ (t js : List ℕ) (r : Reading) (st : List ℕ) (e : read_in r st ≡ reading_of t) where
-  pub measure_refused : (c : RefusalCode) → Refuses r.refusal → c ≡ code_as (number_of r.refusal) (line_of r.refusal) (field_of r.refusal) →
-      refused_measured c.number c.line c.field ≡ measure_of t js
+module _ (t js : List ℕ) (r : Result Head Refusal) (st : List ℕ) (e : read_in r st ≡ reading_of t) where
+  pub measure_refused : (f : Refusal) → r ≡ Err f → turned_away f ≡ measure_of t js
   unfolding measure_of
-  measure_refused c h k = rw (sym e, k) (sym (accepted_refused r.refusal turned_away _ h))
+  measure_refused f h = rw (sym e, h) refl
 
-  module _ (n : r.refusal ≡ Nothing) where
-    pub measure_length : (length js ≡ r.head.jobs → ⊥) → refused_measured 11 0 0 ≡ measure_of t js
+  module _ (h : Head) (n : r ≡ Ok h) where
+    pub measure_length : (length js ≡ h.jobs → ⊥) → refused_measured 11 0 0 ≡ measure_of t js
     unfolding measure_of sheet_of
-    measure_length h = rw (sym e, n, ne_eqb (length js) r.head.jobs h) refl
+    measure_length o = rw (sym e, n, ne_eqb (length js) h.jobs o) refl
 
-    module _ (m : length js ≡ r.head.jobs) (k : ℕ) (q : k ≡ first_above r.head.levels js) where
-      pub measure_level : k < length js → refused_measured 12 0 k ≡ measure_of t js
+    module _ (m : length js ≡ h.jobs) where
+      pub measure_level : (k : ℕ) → k ≡ first_above h.levels js → k < length js → refused_measured 12 0 k ≡ measure_of t js
       unfolding measure_of sheet_of
-      measure_level h = rw (sym e, n, eq-eqb (length js) r.head.jobs m, sym q, lt-ltb k (length js) h) refl
+      measure_level k q l = rw (sym e, n, eq-eqb (length js) h.jobs m, sym q, lt-ltb k (length js) l) refl
 
-      pub measure_given : length js ≤ k → measured_as (margins (sheet_of r.head st) js) ≡ measure_of t js
-      unfolding measure_of sheet_of
-      measure_given h = rw (sym e, n, eq-eqb (length js) r.head.jobs m, sym q, le-ltb k (length js) h) refl
+      module _ (l : length js ≤ first_above h.levels js) where
+        pub measure_given : measured_as (margins (sheet_of h st) js) ≡ measure_of t js
+        unfolding measure_of sheet_of
+        measure_given = rw (sym e, n, eq-eqb (length js) h.jobs m, le-ltb (first_above h.levels js) (length js) l) refl
 
-      pub measurable : length js ≤ k → Measurable (sheet_of r.head st) js
-      unfolding sheet_of
-      measurable h =
-          record {
-            ranges = reading_ranges t r st e n;
-            list = record { size = m; below = none_below r.head.levels js (omega arith) };
-          }
+        pub measurable : Measurable (sheet_of h st) js
+        unfolding sheet_of
+        measurable =
+            record {
+              ranges = reading_ranges t r st e h n;
+              list = record { size = m; below = none_below h.levels js l };
+            }

@@ -1,15 +1,14 @@
 -- The measuring call in words (document 01, 'The run without grains' and 'What is refused'). They follow from the equation with
 -- `measure_of`: `proofs/Meaning.antt`.
 -- Assumes nothing.
-use Rattle.std.specs.Prelude.{◌↔◌, ◌≡◌, List, ℕ, ◌≤◌, ◌<◌, pos, length, get_or, ◌≤ℤ◌}
+use Rattle.std.specs.Prelude.{Some, None, ◌↔◌, ◌≡◌, List, ℕ, ◌≤◌, ◌<◌, pos, length, get_or, ◌≤ℤ◌}
 use Rattle.frame.specs.Sheet.{Sheet}
 use Rattle.frame.specs.Run.{start, exact, exact_run}
 use Rattle.frame.specs.Limits.{Meets, limits, margins}
 use Rattle.frame.specs.Demands.{Below, LevelList}
-use Rattle.refusal.specs.declared.Refusal.TheVariants.{Nothing}
+use Rattle.refusal.specs.declared.Refusal.{Refusal}
 use Rattle.sheet.specs.Reading.{reading_of, sheet_in}
-use Rattle.measure.specs.declared.Measured.{Measured}
-use Rattle.measure.specs.Measure.{refused_measured, measured_as, turned_away}
+use Rattle.measure.specs.Measure.{Measured, refused_measured, measured_as, turned_away}
 
 -- A list on a sheet that passes 1 to 6.
 pub record Judged (s : Sheet) (js : List ℕ) (q : Measured) : Type 0 where
@@ -36,5 +35,5 @@ pub record Judged (s : Sheet) (js : List ℕ) (q : Measured) : Type 0 where
 -- "The measuring call takes any list of levels", on any bytes offered as a sheet.
 pub record Meaning (t js : List ℕ) (q : Measured) : Type 0 where
   -- a sheet that fails one of checks 1 to 6 is refused for the first that it fails
-  pub fails : ¬ ((reading_of t).refusal ≡ Nothing) → q ≡ turned_away (reading_of t).refusal
-  pub passes : (reading_of t).refusal ≡ Nothing → Judged (sheet_in t) js q
+  pub fails : (f : Refusal) → (reading_of t).refusal ≡ Some f → q ≡ turned_away f
+  pub passes : (reading_of t).refusal ≡ None → Judged (sheet_in t) js q

@@ -1,14 +1,14 @@
 -- The measuring call (document 01, 'The run without grains' and 'What is refused'): "takes any list of levels and gives three
 -- signed margins", or refusals 1 to 6 of the sheet, then 11, then 12.
 -- Assumes nothing.
-use Rattle.std.specs.Prelude.{cond, List, [], ◌∷◌, ℕ, suc, eqb, leb, ltb, pos, length}
+use Rattle.std.specs.Prelude.{cond, List, [], ◌∷◌, ℕ, suc, eqb, leb, ltb, ℤ, pos, length, Result, Ok, Err}
 use Rattle.frame.specs.Sheet.{Sheet, Ranges}
 use Rattle.frame.specs.Limits.{Margins, margins}
 use Rattle.frame.specs.Demands.{LevelList}
 use Rattle.refusal.specs.declared.Refusal.{Refusal}
 use Rattle.refusal.specs.Code.{number_of, line_of, field_of, accepted}
 use Rattle.sheet.specs.Reading.{reading_of, sheet_in}
-use Rattle.measure.specs.declared.Measured.{Measured}
+use Rattle.measure.specs.declared.Margins.{Margins as Given}
 
 -- The first place, from 0, at which "a level is l or more"; the list's length where there is none.
 unfoldable pub first_above : ℕ → List ℕ → ℕ
@@ -20,6 +20,15 @@ pub record Measurable (s : Sheet) (js : List ℕ) : Type 0 where
   pub ranges : Ranges s
   pub list : LevelList s s.jobs js
 
+-- What the measuring call says of a list: a refusal's number, line and field, or the three margins.
+pub record Measured : Type 0 where
+  pub refusal : ℕ
+  pub line : ℕ
+  pub field : ℕ
+  pub time : ℤ
+  pub energy : ℤ
+  pub temperature : ℤ
+
 -- "Every figure of a refused reply not named is 0."
 abbrev pub refused_measured : ℕ → ℕ → ℕ → Measured
 refused_measured number line field = record { refusal = number; line = line; field = field; time = pos 0; energy = pos 0; temperature = pos 0 }
@@ -28,9 +37,14 @@ refused_measured number line field = record { refusal = number; line = line; fie
 abbrev pub measured_as : Margins → Measured
 measured_as k = record { refusal = 0; line = 0; field = 0; time = k.time; energy = k.energy; temperature = k.temperature }
 
--- A sheet's refusal of 1 to 6, with what document 01 returns for it.
+-- A refusal, with what document 01 returns for it.
 abbrev pub turned_away : Refusal → Measured
 turned_away f = refused_measured (number_of f) (line_of f) (field_of f)
+
+-- The same by what the call hands back.
+abbrev pub measured_by : Result Given Refusal → Measured
+measured_by (Ok k) = measured_as (record { time = k.time; energy = k.energy; temperature = k.temperature })
+measured_by (Err f) = turned_away f
 
 -- A list of levels on a sheet: 11, "list length is not m", "0, 0"; 12, "a level is l or more", "line 0, field the first such
 -- place, from 0"; and else its margins.

@@ -1,14 +1,14 @@
 -- The moves of a job from one level to another (document 01, 'The rounded run and the table'). From a cell, a job at level j moves the
 -- energy cell by a number that is the same for all cells, and is lawful for the first cells of the energy axis.
 -- Assumes nothing.
-use Rattle.std.specs.Prelude.{◌≡◌, cond, List, ℕ, ◌+◌, ◌*◌, ◌-◌, ◌/◌, ◌%◌, ◌≤◌, ◌<◌, ltb, length, get_or}
+use Rattle.std.specs.Prelude.{◌≡◌, cond, List, ℕ, ◌+◌, ◌*◌, ◌-◌, ◌/◌, ◌%◌, ◌≤◌, ◌<◌, ltb}
 use Rattle.thermal.specs.Rounding.{ceil_div}
 use Rattle.frame.specs.Sheet.{Sheet, limit_max}
 use Rattle.frame.specs.Run.{State, fresh, step}
 use Rattle.frame.specs.Table.{temperature_cells}
-use Rattle.store.specs.Store.{changes_max}
 use Rattle.table.specs.declared.Frame.{Frame}
-use Rattle.moves.specs.declared.Move.{Move}
+use Rattle.open_ways.specs.declared.Move.{Move}
+use Rattle.open_ways.specs.Moves.{move_at}
 
 -- Job i at level j, from level p, energy 0 and temperature 0: its time and energy are the job's and the change's.
 abbrev pub moved : Sheet → ℕ → ℕ → ℕ → State
@@ -38,14 +38,6 @@ pub record Counts (f : Frame) (energy up : ℕ) : Type 0 where
   pub raised : up ≡ ceil_div energy f.head.energy_step
   pub rows : f.energy_cells ≡ ceil_div f.head.energy_budget f.head.energy_step + 1
 
--- The three lists have places for the moves between all levels that there can be.
-pub record Room (shifts reaches times : List ℕ) : Type 0 where
-  pub shifts_long : changes_max ≤ length shifts
-  pub reaches_long : changes_max ≤ length reaches
-  pub times_long : changes_max ≤ length times
-
 -- The first n of the l × l moves of job i, by level left and then level entered. What stands behind them is open.
-pub record Moves (s : Sheet) (i n : ℕ) (shifts reaches times : List ℕ) : Type 0 where
-  pub shift : (u : ℕ) → u < n → get_or shifts u 0 ≡ shift_of s i (u / s.levels) (u % s.levels)
-  pub reach : (u : ℕ) → u < n → get_or reaches u 0 ≡ reach_of s i (u / s.levels) (u % s.levels)
-  pub time : (u : ℕ) → u < n → get_or times u 0 ≡ (moved s i (u / s.levels) (u % s.levels)).time
+pub record Moves (s : Sheet) (i n : ℕ) (moves : List Move) : Type 0 where
+  pub each : (u : ℕ) → u < n → move_at moves u ≡ move_of s i (u / s.levels) (u % s.levels)

@@ -1,49 +1,51 @@
 -- Laws of names and of lines J: what each test says of the name, and what a name says of its bytes.
 -- Assumes nothing.
-use mathlib.Core.Path.{◌≡◌, refl}
-use mathlib.Core.Bool.{true, false}
-use mathlib.Core.List.{List}
-use Prim.Native.Nat.{ℕ, ◌+◌, ◌-◌, ◌≤◌, ◌<◌}
+use mathlib.Core.Path.{◌≡◌, refl, sym}
+use mathlib.Core.Bool.{Bool, true, false, cond}
+use mathlib.Core.List.{List, [], ◌∷◌}
+use Prim.Native.Nat.{ℕ, ◌≤◌, ◌<◌}
 use native.Mathlib.Omega.{arith}
-use lib.Dec.{eqb, ltb}
-use lib.ListN.{length}
-use borrow.Author.Tests.{lt-ltb, le-ltb, eq-eqb, ne_eqb, eqb-false, ltb-false}
-use Rattle.text.specs.Text.{part, all}
-use Rattle.text.proofs.Text.{length_part}
+use lib.Dec.{eqb, leb, ltb}
+use lib.ListN.{length, drop}
+use Rattle.std.specs.Prelude.{Ok, Err, ◌&&◌}
+use Rattle.std.specs.List.{list_all}
+use borrow.Author.Tests.{lt-ltb, le-ltb, ne_eqb, eqb-false, ltb-false}
+use Rattle.text.specs.Text.{all}
 use Rattle.text.proofs.Tests.{cond_else}
 use Rattle.fields.specs.Fields.{opens}
-use Rattle.fields.specs.declared.Fault.{Fault}
-use Rattle.fields.specs.declared.Fault.TheVariants.{Sound, Shape, Form}
+use Rattle.fields.specs.declared.Fault.TheVariants.{Shape, Form}
 use Rattle.fields.proofs.Fields.{opens_beyond}
 use Rattle.fields.proofs.Within.{cond_cases}
-use Rattle.fields.proofs.Faults.{field_in}
+use Rattle.fields.proofs.Faults.{FieldLe}
 use Rattle.name_lines.specs.Name.{name_max, is_name, name_on, name_fault}
 
--- ---- a name, by places
+-- ---- a name
+
+all_list : (lo hi : ℕ) (t : List ℕ) → all lo hi t ≡ list_all (λ b. leb lo b && leb b hi) t
+unfolding all
+all_list lo hi [] = refl
+all_list lo hi (b ∷ t) = both (leb lo b) (leb b hi) (all_list lo hi t)
+  where
+    both : (x y : Bool) {u v : Bool} → u ≡ v → cond x (cond y u false) false ≡ ((x && y) && v)
+    both true true e = e
+    both true false e = refl
+    both false y e = refl
+
+pub name_empty : (t : List ℕ) → eqb (length t) 0 ≡ true → false ≡ is_name t
+unfolding is_name
+name_empty t e = rw e refl
+
+pub name_long : (t : List ℕ) → eqb (length t) 0 ≡ false → name_max < length t → false ≡ is_name t
+unfolding is_name
+name_long t e h = rw (e, lt-ltb name_max (length t) h) refl
+
+pub name_letters : (t : List ℕ) → eqb (length t) 0 ≡ false → length t ≤ name_max → list_all (λ b. leb 33 b && leb b 126) t ≡ is_name t
+unfolding is_name
+name_letters t e h = rw (e, le-ltb name_max (length t) h) (sym (all_list 33 126 t))
 
 pub name_form : (t : List ℕ) → 0 < length t → length t ≤ name_max → is_name t ≡ all 33 126 t
 unfolding is_name
 name_form t h k = simp (ne_eqb (length t) 0 (λ e. omega arith), le-ltb name_max (length t) k)
-
--- The bytes from place `from` up to place i are those of a name, so that the bytes from place i on decide.
-pub record Naming (s : List ℕ) (from to i : ℕ) : Type 0 where
-  pub start : i ≤ to
-  pub within : to ≤ length s
-  pub same : is_name (part from to s) ≡ all 33 126 (part i to s)
-
-module _ (s : List ℕ) (from to : ℕ) (k : to ≤ length s) where
-  pub name_empty : from ≡ to → is_name (part from to s) ≡ false
-  unfolding is_name
-  name_empty e = simp (eq-eqb (length (part from to s)) 0 (omega (arith, length_part from to s k)))
-
-  pub name_long : name_max < to - from → is_name (part from to s) ≡ false
-  unfolding is_name
-  name_long h =
-      let l = length_part from to s k in
-      simp (ne_eqb (length (part from to s)) 0 (λ e. omega arith), lt-ltb name_max (length (part from to s)) (omega arith))
-
-  pub name_bytes : from < to → to - from ≤ name_max → is_name (part from to s) ≡ all 33 126 (part from to s)
-  name_bytes h m = let l = length_part from to s k in name_form (part from to s) (omega arith) (omega arith)
 
 -- ---- what a name says of its bytes
 
@@ -64,23 +66,22 @@ module _ (t : List ℕ) (e : is_name t ≡ true) where
 
 -- ---- a line J
 
-module _ (s : List ℕ) (from to : ℕ) (h : from ≤ to) (long : to ≤ length s) where
-  pub name_shape : opens 74 1 (part from to s) ≡ false → Shape ≡ name_fault (part from to s)
+module _ (line : List ℕ) where
+  pub name_shape : opens 74 1 line ≡ false → Err Shape ≡ name_fault line
   unfolding name_fault
   name_shape e = rw e refl
 
-  module _ (e : opens 74 1 (part from to s) ≡ true) where
-    pub name_sound : is_name (part (from + 2) to s) ≡ true → Sound ≡ name_fault (part from to s)
+  module _ (e : opens 74 1 line ≡ true) where
+    pub name_sound : is_name (drop 2 line) ≡ true → Ok tt ≡ name_fault line
     unfolding name_fault
-    name_sound n = rw (e, opens_beyond s from to 74 1 h long e, n) refl
+    name_sound n = rw (e, opens_beyond 74 1 line e, n) refl
 
-    pub name_malformed : is_name (part (from + 2) to s) ≡ false → Form 2 ≡ name_fault (part from to s)
+    pub name_malformed : is_name (drop 2 line) ≡ false → Err (Form 2) ≡ name_fault line
     unfolding name_fault
-    name_malformed n = rw (e, opens_beyond s from to 74 1 h long e, n) refl
+    name_malformed n = rw (e, opens_beyond 74 1 line e, n) refl
 
 -- The field that its fault names is at most 11.
-pub name_field : (line : List ℕ) → field_in (name_fault line) ≤ 11
+pub name_field : (line : List ℕ) → FieldLe (name_fault line)
 unfolding name_fault
 name_field line =
-    let P : Fault → Type 0 = λ f. field_in f ≤ 11 in
-    cond_cases P (opens 74 1 line) _ _ (λ a. cond_cases P (is_name (name_on line)) _ _ (λ b. omega arith) (λ b. omega arith)) (λ a. omega arith)
+    cond_cases FieldLe (opens 74 1 line) _ _ (λ a. cond_cases FieldLe (is_name (name_on line)) _ _ (λ b. tt) (λ b. omega arith)) (λ a. omega arith)

@@ -1,49 +1,40 @@
 #![tactic(auto)]
 
-ghost use Rattle.std.specs.Prelude.{◌≡◌, ◌≤◌, length};
-ghost use Rattle.text.specs.Text.{part, count};
+ghost use Rattle.std.specs.Prelude.{◌≡◌, ◌&&◌, nat_le};
+ghost use Rattle.std.specs.List.{list_all};
 ghost use Rattle.name_lines.specs.Name.{is_name, name_fault};
 
 use fields::Fault;
+use text::Line;
 
 pub const NAME_MAX: usize = 16; // document 01: "name (1 to 16 bytes, each 33 to 126)"
 
-// Whether the bytes from `from` up to `to` are a job's name.
-fn is_name(s: &[u8], from: usize, to: usize) -> bool
-    requires { (from ≤ to) × (to ≤ length s.now) }
-    ensures { result ≡ is_name (part from to s.now) }
+// Whether each byte is 33 to 126.
+fn are_letters(t: &[u8]) -> bool
+    ensures { result ≡ list_all (λ b. nat_le 33 b && nat_le b 126) t.now }
 {
-    if from == to {
+    t.iter().all(|b| b'!' <= *b && *b <= b'~')
+}
+
+// Whether bytes are a job's name.
+fn is_name(t: &[u8]) -> bool
+    ensures { result ≡ is_name t.now }
+{
+    if t.is_empty() || NAME_MAX < t.len() {
         return false;
     }
-    if NAME_MAX < to - from {
-        return false;
-    }
-    let mut i = from;
-    while i < to {
-        let b = s[i];
-        if b < b'!' {
-            return false;
-        }
-        if b'~' < b {
-            return false;
-        }
-        i += 1;
-    }
-    true
+    are_letters(t)
 }
 
 // What is wrong with a line J and its name.
-pub fn check_name(s: &[u8], from: usize, to: usize, tabs: usize) -> Fault
-    requires { (from ≤ to) × (to ≤ length s.now) × (tabs ≡ count 9 (part from to s.now)) }
-    ensures { result ≡ name_fault (part from to s.now) }
+pub fn check_name(line: Line) -> Result<(), Fault>
+    ensures { result ≡ name_fault line.entry.bytes.now }
 {
-    if !fields::opens_with(s, from, to, tabs, b'J', 1) {
-        return Fault::Shape;
+    if !fields::opens_with(line, b'J', 1) {
+        return Err(Fault::Shape);
     }
-    if is_name(s, from + 2, to) {
-        Fault::Sound
-    } else {
-        Fault::Form(2)
+    if !is_name(text::behind(line.bytes, 1)) {
+        return Err(Fault::Form(2));
     }
+    Ok(())
 }

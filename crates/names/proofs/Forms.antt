@@ -6,24 +6,25 @@ use mathlib.Core.List.{List}
 use Prim.Native.Nat.{ℕ, zero, suc, ◌+◌, ◌*◌, ◌-◌, ◌≤◌, ◌<◌}
 use native.Mathlib.Decide.{dec_lt}
 use native.Mathlib.Omega.{arith}
-use lib.ListN.{length, get_or, replicate}
+use lib.ListN.{length, replicate}
 use Rattle.text.specs.Text.{until, beyond, ahead}
 use Rattle.fields.specs.Fields.{opens}
 use Rattle.name_lines.specs.Name.{name_max, is_name, name_on, name_fault}
 use Rattle.name_lines.proofs.Name.{name_few}
 use Rattle.fields.specs.declared.Fault.{Fault}
-use Rattle.fields.specs.declared.Fault.TheVariants.{Sound, Shape}
-use Rattle.fields.proofs.Within.{malformed, shapeless}
+use Rattle.fields.specs.declared.Fault.TheVariants.{Shape, Form}
 use Rattle.fields.specs.Fields.{after}
 use Rattle.lines.specs.Lines.{Found, block_from}
-use Rattle.line_kinds.specs.Figures.{fields_for}
+use Rattle.line_kinds.specs.Figures.{fields_for, put}
 use Rattle.line_kinds.specs.declared.Kind.{Kind}
 use Rattle.line_kinds.specs.declared.Kind.TheVariants.{Level, Change, Work}
 use Rattle.fields.proofs.Within.{cond_cases}
-use Rattle.fields.proofs.After.{after_cases}
+use Rattle.fields.proofs.After.{after_cases, cond_ok}
 use Rattle.store.specs.Store.{levels_max, store_size}
 use Rattle.body.specs.Body.{onward, changes_from, jobs_from, body_from, body_line, lines_before}
-use Rattle.refusal.specs.declared.Refusal.TheVariants.{Nothing}
+use Rattle.std.specs.Prelude.{Option, Some, None, Result, Ok}
+use Rattle.std.specs.Option.{option_map_or}
+use Rattle.std.proofs.lemmas.Option.{none-some}
 use Rattle.sheet.specs.Reading.{reading_of}
 use Rattle.sheet.proofs.Whole.{body_of, Whole, read_whole}
 use Rattle.name_places.specs.Place.{skip, next_name}
@@ -66,31 +67,36 @@ passed_add {a} {b} {t} p q =
 -- ---- what holds of lines that are sound to the end
 
 -- A line, and what is found after it.
-line_sound : (P : Found → Type 0) (t : List ℕ) (ln : ℕ) (st : List ℕ) (fault : Fault) (go : Found) → (ahead 10 t ≡ true → fault ≡ Sound → go.fault ≡ Sound → P go) →
-    let found = cond (ahead 10 t) (after fault (record { fault = fault; line = ln; rest = t; store = st }) go) (record { fault = Shape; line = ln; rest = t; store = st }) in
-    found.fault ≡ Sound → P found
-line_sound P t ln st fault go h =
-    let Q : Found → Type 0 = λ f. f.fault ≡ Sound → P f in
-    cond_cases Q (ahead 10 t) _ _ (λ a. after_cases Q fault _ _ (λ o e. absurd (o e)) (h a)) (λ a e. absurd (shapeless e))
+line_sound : {A : Type 0} (P : Found → Type 0) (t : List ℕ) (ln : ℕ) (st : List ℕ) (r : Result A Fault) (go : A → Found) →
+    ((a : A) → ahead 10 t ≡ true → r ≡ Ok a → (go a).fault ≡ None → P (go a)) →
+    let found = cond (ahead 10 t) (after r (λ f. record { fault = Some f; line = ln; rest = t; store = st }) go) (record { fault = Some Shape; line = ln; rest = t; store = st }) in
+    found.fault ≡ None → P found
+line_sound P t ln st r go h =
+    let Q : Found → Type 0 = λ f. f.fault ≡ None → P f in
+    cond_cases Q (ahead 10 t) _ _ (λ a. after_cases Q r _ go (λ f e q. absurd (none-some f (sym q))) (λ x e. h x a e)) (λ a q. absurd (none-some Shape (sym q)))
 
 -- Lines, and what is found after them.
 onward_sound : (P : Found → Type 0) (f : Found) (go : List ℕ → ℕ → List ℕ → Found) →
     let last = go f.rest f.line f.store in
-    (f.fault ≡ Sound → last.fault ≡ Sound → P last) → (onward f go).fault ≡ Sound → P (onward f go)
-onward_sound P f go h = after_cases (λ (g : Found). g.fault ≡ Sound → P g) f.fault f _ (λ o e. absurd (o e)) h
+    (f.fault ≡ None → last.fault ≡ None → P last) → (onward f go).fault ≡ None → P (onward f go)
+onward_sound P f go h = on f.fault refl
+  where
+    on : (o : Option Fault) → f.fault ≡ o → (option_map_or (λ fault. f) o (go f.rest f.line f.store)).fault ≡ None → P (option_map_or (λ fault. f) o (go f.rest f.line f.store))
+    on None e q = h e q
+    on (Some fault) e q = absurd (none-some fault (sym q ∙ e))
 
 -- ---- the lines of a block and of the changes
 
 -- What was found is n lines of the text t, where it is sound.
 abbrev Passes : ℕ → List ℕ → Found → Type 0
-Passes n t f = f.fault ≡ Sound → Passed n t f.rest
+Passes n t f = f.fault ≡ None → Passed n t f.rest
 
 block_passes : (kind : Kind) (b n j : ℕ) (t : List ℕ) (ln : ℕ) (st : List ℕ) → Passes n t (block_from kind b n j t ln st)
 unfolding block_from
 block_passes kind b zero j t ln st = λ e. passed_none t
 block_passes kind b (suc n) j t ln st =
-    line_sound (λ f. Passed (suc n) t f.rest) t ln st (fields_for kind j (until 10 t)).fault _
-    (λ a s e. passed_more a (block_passes kind b n (j + 1) (beyond 10 t) (ln + 1) _ e))
+    line_sound (λ f. Passed (suc n) t f.rest) t ln st (fields_for kind j (until 10 t)) (λ entry. block_from kind b n (j + 1) (beyond 10 t) (ln + 1) (put (b + j) entry st))
+    (λ entry a s e. passed_more a (block_passes kind b n (j + 1) (beyond 10 t) (ln + 1) (put (b + j) entry st) e))
 
 changes_passes : (l n p : ℕ) (t : List ℕ) (ln : ℕ) (st : List ℕ) → Passes (n * l) t (changes_from l n p t ln st)
 unfolding changes_from
@@ -103,11 +109,11 @@ changes_passes l (suc n) p t ln st =
 
 -- ---- the names of jobs
 
-name_formed : (line : List ℕ) → name_fault line ≡ Sound → is_name (name_on line) ≡ true
+name_formed : (line : List ℕ) → name_fault line ≡ Ok tt → is_name (name_on line) ≡ true
 unfolding name_fault
-name_formed line =
-    let P : Fault → Type 0 = λ f. f ≡ Sound → is_name (name_on line) ≡ true in
-    cond_cases P (opens 74 1 line) _ _ (λ a. cond_cases P (is_name (name_on line)) _ _ (λ b e. b) (λ b e. absurd (malformed 2 e))) (λ a e. absurd (shapeless e))
+name_formed line e =
+    let a = cond_ok (opens 74 1 line) _ Shape tt e in
+    (cond_ok (is_name (name_on line)) _ (Form 2) tt a.1).0
 
 -- The text t has a lines and those of n jobs at l levels, and u comes after them; each job's name is of the written form.
 record Named (l n a : ℕ) (t u : List ℕ) : Type 0 where
@@ -139,7 +145,7 @@ named_more {l} {n} {t} {u} {v} f p w = record { passed = rw (z n) y.passed; name
     go zero h = let x : 0 + 0 * (l + 1) ≡ 0 = omega arith in rw x f
     go (suc i) h = rw (z i) (y.named i (omega arith))
 
-jobs_named : (l n i : ℕ) (t : List ℕ) (ln : ℕ) (st : List ℕ) → (jobs_from l n i t ln st).fault ≡ Sound → Named l n 0 t (jobs_from l n i t ln st).rest
+jobs_named : (l n i : ℕ) (t : List ℕ) (ln : ℕ) (st : List ℕ) → (jobs_from l n i t ln st).fault ≡ None → Named l n 0 t (jobs_from l n i t ln st).rest
 unfolding jobs_from
 jobs_named l zero i t ln st = λ e.
     let z : 0 + 0 * (l + 1) ≡ 0 = omega arith in
@@ -148,12 +154,12 @@ jobs_named l (suc n) i t ln st =
     let P : Found → Type 0 = λ g. Named l (suc n) 0 t g.rest in
     let f = block_from Work (i * levels_max) l 0 (beyond 10 t) (ln + 1) st in
     let z : l + 1 ≡ suc l = omega arith in
-    line_sound P t ln st (name_fault (until 10 t)) (onward f (jobs_from l n (i + 1)))
-    (λ a s. onward_sound P f (jobs_from l n (i + 1))
+    line_sound P t ln st (name_fault (until 10 t)) (λ name. onward f (jobs_from l n (i + 1)))
+    (λ name a s. onward_sound P f (jobs_from l n (i + 1))
     (λ s' e. named_more (name_formed (until 10 t) s) (rw z (passed_more a (block_passes Work (i * levels_max) l 0 (beyond 10 t) (ln + 1) st s')))
     (jobs_named l n (i + 1) f.rest f.line f.store e)))
 
-body_named : (m l resistance : ℕ) (t : List ℕ) (ln : ℕ) (st : List ℕ) → (body_from m l resistance t ln st).fault ≡ Sound →
+body_named : (m l resistance : ℕ) (t : List ℕ) (ln : ℕ) (st : List ℕ) → (body_from m l resistance t ln st).fault ≡ None →
     Named l m (l + l * l) t (body_from m l resistance t ln st).rest
 unfolding body_from
 body_named m l resistance t ln st =
@@ -167,24 +173,24 @@ body_named m l resistance t ln st =
 -- ---- a whole sheet
 
 sheet_named : (t : List ℕ) (w : Whole t (reading_of t)) →
-    let h = (reading_of t).head in Named h.levels h.jobs (2 + h.levels + h.levels * h.levels) t (body_of w.vs (beyond 10 (beyond 10 t))).rest
+    let h = (reading_of t).head in Named h.levels h.jobs (2 + h.levels + h.levels * h.levels) t (body_of w.head (beyond 10 (beyond 10 t))).rest
 sheet_named t w =
-    let m = get_or w.vs 0 0 in
-    let l = get_or w.vs 1 0 in
+    let m = w.head.jobs in
+    let l = w.head.levels in
     let z : 2 + l + l * l ≡ 2 + (l + l * l) = omega arith in
     rw (w.same, z)
-    (named_add (passed_more w.first (passed_more w.second (passed_none _))) (body_named m l (get_or w.vs 7 0) (beyond 10 (beyond 10 t)) body_line (replicate store_size 0) w.sound))
+    (named_add (passed_more w.first (passed_more w.second (passed_none _))) (body_named m l w.head.resistance (beyond 10 (beyond 10 t)) body_line (replicate store_size 0) w.sound))
 
 -- Every line of a sheet that is read is ended.
-pub lines_ahead : (t : List ℕ) (n : ℕ) → (reading_of t).refusal ≡ Nothing →
+pub lines_ahead : (t : List ℕ) (n : ℕ) → (reading_of t).refusal ≡ None →
     n < lines_before (reading_of t).head.levels (reading_of t).head.jobs →
     ahead 10 (skip n t) ≡ true
 lines_ahead t n e h = (sheet_named t (read_whole t e)).passed.ended n h
 
 -- The name of a job of a sheet that is read is of the written form: "name (1 to 16 bytes, each 33 to 126)".
-pub job_name_form : (t : List ℕ) (i : ℕ) → (reading_of t).refusal ≡ Nothing → i < (reading_of t).head.jobs → is_name (name_of t i) ≡ true
+pub job_name_form : (t : List ℕ) (i : ℕ) → (reading_of t).refusal ≡ None → i < (reading_of t).head.jobs → is_name (name_of t i) ≡ true
 job_name_form t i e h = rw (name_some t i (reading_of t) refl h) ((sheet_named t (read_whole t e)).named i h)
 
 -- It has at most 16 bytes.
-pub job_name_short : (t : List ℕ) (i : ℕ) → (reading_of t).refusal ≡ Nothing → i < (reading_of t).head.jobs → length (name_of t i) ≤ name_max
+pub job_name_short : (t : List ℕ) (i : ℕ) → (reading_of t).refusal ≡ None → i < (reading_of t).head.jobs → length (name_of t i) ≤ name_max
 job_name_short t i e h = name_few (name_of t i) (job_name_form t i e h)

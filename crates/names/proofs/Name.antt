@@ -1,23 +1,16 @@
 -- Laws of names: which line has a job's name, and how many come before it.
 -- Assumes nothing.
-use mathlib.Core.Path.{◌≡◌, refl, ap}
+use mathlib.Core.Path.{◌≡◌, refl}
 use mathlib.Core.List.{List, []}
 use Prim.Native.Nat.{ℕ, ◌*◌, ◌≤◌, ◌<◌}
 use native.Mathlib.Nat.{mul-le-mul}
 use native.Mathlib.Omega.{arith}
-use lib.ListN.{drop}
 use borrow.Author.Tests.{le-leb, lt-leb}
 use Rattle.store.specs.Store.{jobs_max, levels_max}
 use Rattle.body.specs.Body.{job_lines, lines_before}
 use Rattle.sheet.specs.Reading.{SheetRead, reading_of}
 use Rattle.sheet.proofs.Whole.{Counts, counts}
-use Rattle.name_places.specs.Place.{skip, next_name}
 use Rattle.names.specs.Name.{name_at, name_of}
-
--- The name on the line that is reached.
-pub name_reached : (s : List ℕ) (n p : ℕ) → drop p s ≡ skip n (drop 0 s) → next_name (drop p s) ≡ name_at n s
-unfolding name_at
-name_reached s n p e = ap next_name e
 
 -- ---- a job's name in a sheet that was read
 

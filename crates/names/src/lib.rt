@@ -11,8 +11,7 @@ use store::STORE_SIZE;
 pub fn name_at(s: &[u8], n: usize) -> &[u8]
     ensures { result.now ≡ name_at n s.now }
 {
-    let p = name_places::skip_lines(s, 0, n);
-    name_places::name_on(s, p)
+    name_places::name_on(name_places::skip_lines(s, n))
 }
 
 // The lines of a job on a sheet of l levels.
@@ -36,11 +35,12 @@ pub fn job_name(s: &[u8], i: usize) -> &[u8]
     ensures { result.now ≡ name_of s.now i }
 {
     let mut store = [0u32; STORE_SIZE];
-    let r = sheet::read(s, &mut store);
-    let m = r.head.jobs as usize;
-    let l = r.head.levels as usize;
+    let Ok(head) = sheet::read(s, &mut store) else {
+        return &s[..0];
+    };
+    let m = head.jobs as usize;
     if m <= i {
         return &s[..0];
     }
-    name_at(s, lines_before(l, i))
+    name_at(s, lines_before(head.levels as usize, i))
 }

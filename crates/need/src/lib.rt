@@ -1,7 +1,7 @@
 #![tactic(auto)]
 
 // The table that a sheet needs: its axes, and how many words it has.
-ghost use Rattle.std.specs.Prelude.{◌≡◌, ◌<◌, ◌^◌};
+ghost use Rattle.std.specs.Prelude.{◌≡◌, ◌<◌, ◌^◌, IfOk};
 ghost use Rattle.frame.specs.Table.{need};
 ghost use Rattle.need.specs.Axes.{Lawful, bare, axes_of};
 ghost use Rattle.need.specs.Need.{words_of};
@@ -9,13 +9,6 @@ ghost use Rattle.need.specs.Need.{words_of};
 use refusal::Refusal;
 use store::{Head, STORE_SIZE};
 use table::Frame;
-
-// How many words a sheet needs, or a refusal of 1 to 6.
-#[derive(Drop)]
-pub struct Words {
-    pub refusal: u32,
-    pub words: usize,
-}
 
 // The head, and the cells of the table's two axes.
 pub fn frame_of(head: Head) -> Frame
@@ -40,21 +33,12 @@ pub fn need_of(f: Frame) -> usize
     f.head.jobs as usize * f.head.levels as usize * f.energy_cells * f.temperature_cells
 }
 
-// The words that a sheet needs, whatever is lent.
-pub fn count_words(s: &[u8]) -> Words
+// The words that a sheet needs, whatever is lent, or its refusal of 1 to 6.
+pub fn count_words(s: &[u8]) -> Result<usize, Refusal>
     ensures value { result ≡ words_of s.now }
-    ensures words_bound { result.words < 2 ^ 63 }
+    ensures words_bound { IfOk result (λ n. n < 2 ^ 63) }
 {
     let mut store = [0u32; STORE_SIZE];
-    let r = sheet::read(s, &mut store);
-    let f = r.refusal;
-    let Refusal::Nothing = f else {
-        let c = refusal::code_of(f);
-        return Words {
-            refusal: c.number,
-            words: 0,
-        };
-    };
-    let words = need_of(frame_of(r.head));
-    Words { refusal: 0, words }
+    let head = sheet::read(s, &mut store)?;
+    Ok(need_of(frame_of(head)))
 }

@@ -4,20 +4,15 @@ ghost use Rattle.std.specs.Prelude.{◌≡◌, cond, ◌+◌, ◌≤◌, ◌<◌
 ghost use Rattle.thermal.specs.Rounding.{ceil_div};
 ghost use Rattle.frame.specs.Sheet.{Sheet};
 ghost use Rattle.frame.specs.Table.{temperature_cells, words_max};
-ghost use Rattle.store.specs.Figures.{sheet_of};
-ghost use Rattle.table.specs.Table.{Framed};
+ghost use Rattle.table.specs.Problem.{sheet_for};
 ghost use Rattle.spans.specs.Spans.{Spans};
 ghost use Rattle.next_cells.specs.Next.{Warms, next_cell};
 
 use run::Run;
-use store::{LEVELS_MAX, STORE_SIZE};
-use table::Frame;
+use table::{Frame, Problem};
 
 // The scale of a multiplier that stands for a division: 2 ^ 32.
-const SCALE: u64 = 4_294_967_296;
-
-// One less, so that a multiplier takes a division of 32 bits.
-const WORD_MAX: u32 = 4_294_967_295;
+const SCALE: u64 = 1 << 32;
 
 // The temperature cell of a temperature at a job's end, B where it is above the limit. The quotient by h is worked out by the
 // multiplier 2 ^ 32 / h, rounded up: it is exact for numbers as small as these.
@@ -33,31 +28,16 @@ fn cell_of(f: Frame, t: u64, multiplier: u64) -> u32
 }
 
 // Writes, for each temperature cell, the temperature cell after job i at level j.
-pub fn map_cells(
-    f: Frame,
-    store: &[u32; STORE_SIZE],
-    steady: &[u32; LEVELS_MAX],
-    table: &mut [u32],
-    i: u32,
-    j: u32,
-    at: usize,
-)
-    requires { let s = sheet_of f.head store.now in record {
-      framed : Framed s f store.now steady.now;
-      job : i < s.jobs;
-      level : j < s.levels;
-      room : at + temperature_cells s ≤ length table.old;
-      allowed : at ≤ words_max;
-    } }
-    ensures { let s = sheet_of f.head store.now in Spans table.old table.new at (temperature_cells s) (next_cell s i j) }
+pub fn map_cells(problem: &Problem, table: &mut [u32], i: u32, j: u32, at: usize)
+    requires { let s = sheet_for problem.now in record { job : i < s.jobs; level : j < s.levels; room : at + temperature_cells s ≤ length table.old; allowed : at ≤ words_max } }
+    ensures { let s = sheet_for problem.now in Spans table.old table.new at (temperature_cells s) (next_cell s i j) }
 {
+    let f = problem.frame;
     let step = f.head.temperature_step as u64;
-    let multiplier = (WORD_MAX / f.head.temperature_step) as u64 + 1;
-    let width = f.temperature_cells;
-    let mut b: usize = 0;
-    while b < width {
-        let c = step::next_job(Run::fresh(i, j, 0, b as u64 * step), store, steady, j);
-        table[at + b] = cell_of(f, c.temperature, multiplier);
-        b += 1;
+    let multiplier = (u32::MAX / f.head.temperature_step) as u64 + 1;
+    for b in 0..f.temperature_cells {
+        let run = Run::fresh(i, j, 0, b as u64 * step);
+        let after = problem.figures.next_job(run, j);
+        table[at + b] = cell_of(f, after.temperature, multiplier);
     }
 }

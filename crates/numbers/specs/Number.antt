@@ -1,9 +1,7 @@
 -- The form of a number (document 01, 'The sheet').
 -- Assumes nothing.
-use Rattle.std.specs.Prelude.{Bool, false, cond, List, [], ◌∷◌, ℕ, ◌+◌, ◌-◌, ◌*◌, eqb, ltb, length, get_or}
-use Rattle.text.specs.Text.{before, until, all}
-use Rattle.numbers.specs.declared.Field.{Field}
-use Rattle.numbers.specs.declared.Field.TheVariants.{Number, Malformed}
+use Rattle.std.specs.Prelude.{Bool, false, cond, List, [], ◌∷◌, ℕ, ◌+◌, ◌-◌, ◌*◌, eqb, ltb, length, get_or, Option, Some, None}
+use Rattle.text.specs.Text.{until, beyond, all}
 
 -- "no leading zero, except 0 itself": a digit 0 (byte 48) with more behind it
 unfoldable pub leading_zero : List ℕ → Bool
@@ -18,6 +16,6 @@ unfoldable pub value_from : ℕ → List ℕ → ℕ
 value_from v [] = v
 value_from v (b ∷ t) = value_from (v * 10 + (b - 48)) t
 
--- The next field of the rest t of a line, as a number, and the place after it, where t stands at place p.
-unfoldable pub field_at : ℕ → List ℕ → Field
-field_at p t = cond (is_number (until 9 t)) (Number (value_from 0 (until 9 t)) (p + before 9 t + 1)) Malformed
+-- The number in the next field of the rest t of a line, and what comes after that field.
+unfoldable pub next_number : List ℕ → Option (ℕ × List ℕ)
+next_number t = cond (is_number (until 9 t)) (Some (value_from 0 (until 9 t), beyond 9 t)) None

@@ -1,51 +1,44 @@
 #![tactic(auto)]
 
-ghost use Rattle.std.specs.Prelude.{◌≡◌, ◌+◌, ◌≤◌, length};
-ghost use Rattle.text.specs.Text.{part};
-ghost use Rattle.numbers.specs.Number.{field_at};
+ghost use Rattle.std.specs.Prelude.{◌≡◌};
+ghost use Rattle.std.specs.Option.{option_map};
+ghost use Rattle.numbers.specs.Number.{next_number};
 
 use text::TAB;
 
 const DIGITS_MAX: usize = 10; // document 01: "A number has 1 to 10 digits"
 
-// A number field with its value and the place of the next field, or a field of another form.
+// The number in a field, and the rest of the line after the field.
 #[derive(Drop)]
-pub enum Field {
-    Number(u64, usize),
-    Malformed,
+pub struct Number<'a> {
+    pub value: u64,
+    pub rest: &'a [u8],
 }
 
-// The number in the field that starts at `from` in a line that ends at `to`.
-pub fn read_number(s: &[u8], from: usize, to: usize) -> Field
-    requires { (from ≤ to + 1) × (to ≤ length s.now) }
-    ensures { result ≡ field_at from (part from to s.now) }
+// The number in the next field of the rest of a line; none where the field is of another form.
+pub fn read_number(t: &[u8]) -> Option<Number<'_>>
+    ensures { option_map (λ n. (n.value, n.rest.now)) result ≡ next_number t.now }
 {
-    let mut v: u64 = 0;
-    let mut i = from;
-    while i < to {
-        let b = s[i];
+    let mut value = 0;
+    let mut digits = 0;
+    for &b in t {
         if b == TAB {
             break;
         }
-        if b < b'0' {
-            return Field::Malformed;
+        if b < b'0' || b'9' < b || DIGITS_MAX <= digits {
+            return None;
         }
-        if b'9' < b {
-            return Field::Malformed;
-        }
-        if DIGITS_MAX <= i - from {
-            return Field::Malformed;
-        }
-        v = v * 10 + (b - b'0') as u64;
-        i += 1;
+        value = value * 10 + (b - b'0') as u64;
+        digits += 1;
     }
-    if i == from {
-        return Field::Malformed;
+    if digits == 0 {
+        return None;
     }
-    if 1 < i - from {
-        if s[from] == b'0' {
-            return Field::Malformed;
-        }
+    if 1 < digits && t[0] == b'0' {
+        return None;
     }
-    Field::Number(v, i + 1)
+    Some(Number {
+        value,
+        rest: text::behind(t, digits),
+    })
 }

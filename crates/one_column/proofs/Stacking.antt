@@ -1,6 +1,6 @@
--- The words of one column written one after the other: none, one word more, all.
+-- The words of one column written one after the other: one word more, all.
 -- Assumes nothing.
-use mathlib.Core.Path.{◌≡◌, refl, ◌∙◌}
+use mathlib.Core.Path.{◌≡◌, ◌∙◌}
 use mathlib.Core.List.{List}
 use Prim.Native.Nat.{ℕ, ◌+◌, ◌*◌, ◌-◌, ◌≤◌, ◌<◌}
 use native.Mathlib.Nat.{add-mul, mul-le-mul_right, le_antisymm}
@@ -10,15 +10,12 @@ use lib.ListN.{length, get_or, set, length-set}
 use lib.Seq.{get_or-set_same, get_or-set_other}
 use Rattle.one_column.specs.Column.{Column}
 
-pub column_none : (ws : List ℕ) (at width : ℕ) (f : ℕ → ℕ) → Column ws ws at 0 width f
-column_none ws at width f = record { long = refl; inside = λ a h. absurd (omega arith); outside = λ q h. refl }
-
 -- A row further up stands at another place.
 step_on : (a b width : ℕ) → 1 ≤ width → a < b → a * width < b * width
 step_on a b width h l = let g : a + 1 ≤ b = omega arith in omega (arith, mul-le-mul_right width g, add-mul a 1 width)
 
 module _ {old new : List ℕ} {at a width : ℕ} {f : ℕ → ℕ} (w : Column old new at a width f) where
-  pub column_more : 1 ≤ width → at + a * width < length new → (v : ℕ) → v ≡ f a → Column old (set new (at + a * width) v) at (a + 1) width f
+  column_more : 1 ≤ width → at + a * width < length new → (v : ℕ) → v ≡ f a → Column old (set new (at + a * width) v) at (a + 1) width f
   column_more wide room v e =
       record {
         long = length-set new (at + a * width) v ∙ w.long;
@@ -41,15 +38,6 @@ module _ {old new : List ℕ} {at a width : ℕ} {f : ℕ → ℕ} (w : Column o
   pub column_all : {n : ℕ} → a ≤ n → n ≤ a → Column old new at n width f
   column_all h l = rw (le_antisymm h l) at w
 
-  pub column_same : {g : ℕ → ℕ} → ((i : ℕ) → i < a → f i ≡ g i) → Column old new at a width g
-  column_same e = record { long = w.long; inside = λ i h. w.inside i h ∙ e i h; outside = w.outside }
-
--- A row's place, one row further on, and within the rows.
+-- A row's place, one row further on.
 pub place_next : {k : ℕ} (a width : ℕ) → k ≡ a * width → k + width ≡ (a + 1) * width
 place_next a width e = omega (arith, e, add-mul a 1 width)
-
-pub place_within : {k : ℕ} (a rows width : ℕ) → k ≡ a * width → a < rows → (k ≤ (rows - 1) * width) × (k + width ≤ rows * width)
-place_within a rows width e h =
-    let top : a ≤ rows - 1 = omega arith in
-    let next : a + 1 ≤ rows = omega arith in
-    (omega (arith, e, mul-le-mul_right width top), omega (arith, e, add-mul a 1 width, mul-le-mul_right width next))

@@ -2,8 +2,8 @@
 -- Assumes nothing.
 use Rattle.std.specs.Prelude.{List, ℕ, ◌+◌, ◌*◌, ◌≤◌, length}
 use Rattle.store.specs.Store.{levels_max}
-use Rattle.word.specs.Word.{words_max}
-use Rattle.open_ways.specs.Moves.{Moving, Lows}
+use Rattle.open_ways.specs.declared.layer.Layer.{Layer}
+use Rattle.open_ways.specs.Layer.{Lows}
 
 -- The words of a level that are worked on at once, and those of all levels.
 abbrev pub part_size : ℕ
@@ -13,17 +13,14 @@ abbrev pub scratch_size : ℕ
 scratch_size = levels_max * part_size
 
 -- The words of a job are in the table, and the scratch has a part for each level.
-pub record Room (table scratch : List ℕ) (at levels cells : ℕ) : Type 0 where
-  pub few : levels ≤ levels_max
-  pub inside : at + levels * cells ≤ length table
-  pub small : at + levels * cells ≤ words_max
+pub record Room (table scratch : List ℕ) (layer : Layer) : Type 0 where
+  pub inside : layer.at + layer.levels * layer.cells ≤ length table
   pub parts : scratch_size ≤ length scratch
 
--- A job whose words from word x on are to be worked out: its moves, its room, and what follows it.
-pub record Job (table scratch shifts reaches times : List ℕ) (at levels cells x : ℕ) : Type 0 where
-  pub moves : Moving levels cells shifts reaches times
-  pub room : Room table scratch at levels cells
-  pub lows : Lows levels cells at x table
+-- A job whose words from word x on are to be worked out: its room, and what follows it.
+pub record Job (table scratch : List ℕ) (layer : Layer) (x : ℕ) : Type 0 where
+  pub room : Room table scratch layer
+  pub lows : Lows layer x table
 
 -- The n words from word x on are a level's, and no more than a part has.
 pub record Part (cells x n : ℕ) : Type 0 where

@@ -3,10 +3,11 @@
 ghost use Rattle.std.specs.Prelude.{ℕ, ◌+◌, ◌*◌, ◌<◌};
 ghost use Rattle.word.specs.Word.{settled};
 ghost use Rattle.spans.specs.Spans.{Spans};
-ghost use Rattle.open_ways.specs.Moves.{relaxed_at};
+ghost use Rattle.open_ways.specs.Layer.{relaxed};
 ghost use Rattle.one_level.specs.Level.{part_size, Job, Part};
 
-use open_ways::find_ways;
+use one_way::Way;
+use open_ways::Layer;
 use store::LEVELS_MAX;
 use ways::take_span;
 
@@ -14,45 +15,21 @@ use ways::take_span;
 pub const PART_SIZE: usize = 384;
 
 // Works out n words, from word x on, for the level p before, into that level's part, span by span.
-pub fn relax_level(
-    table: &[u32],
-    part: &mut [u32],
-    at: usize,
-    levels: usize,
-    cells: usize,
-    shifts: &[u32],
-    reaches: &[u32],
-    times: &[u32],
-    p: usize,
-    x: usize,
-    n: usize,
-)
+pub fn relax_level(table: &[u32], part: &mut [u32], layer: &Layer, p: usize, x: usize, n: usize)
     requires { record {
-      job : Job table.now part.old shifts.now reaches.now times.now at levels cells x;
-      words : Part cells x n;
-      level : p < levels;
+      job : Job table.now part.old layer.now x;
+      words : Part layer.now.cells x n;
+      level : p < layer.now.levels;
     } }
-    ensures { Spans part.old part.new (p * part_size) n (λ (q : ℕ). settled (relaxed_at shifts.now reaches.now times.now table.now levels cells at p levels (x + q))) }
+    ensures { Spans part.old part.new (p * part_size) n (λ (q : ℕ). settled (relaxed layer.now table.now p (x + q))) }
 {
-    let mut froms = [0usize; LEVELS_MAX];
-    let mut costs = [0u32; LEVELS_MAX];
+    let mut ways = [Way { from: 0, time: 0 }; LEVELS_MAX];
     let mut y = x;
+    // A span is as long as its ways let it be, so that no range has its steps.
     while y < x + n {
-        let s = find_ways(
-            at,
-            levels,
-            cells,
-            shifts,
-            reaches,
-            times,
-            p,
-            y,
-            x + n,
-            &mut froms,
-            &mut costs,
-        );
+        let s = layer.find_ways(p, y, x + n, &mut ways);
         let place = p * PART_SIZE + (y - x);
-        take_span(table, part, place, s.to - y, &froms, &costs, s.count);
+        take_span(table, part, place, s.to - y, &ways[..s.count]);
         y = s.to;
     }
 }

@@ -9,7 +9,8 @@ use lib.ListN.{length, get_or}
 use borrow.Author.Tests.{lt-ltb, le-ltb}
 use Rattle.store.specs.Store.{levels_max}
 use Rattle.word.specs.Word.{far, job_most}
-use Rattle.one_way.specs.Way.{by_way, slot_of, Leads}
+use Rattle.one_way.specs.declared.Way.{Way}
+use Rattle.one_way.specs.Way.{way_at, by_way, slot_of, Leads, Opened}
 
 pub slot_own : (count k : ℕ) → k < count → slot_of count k ≡ k
 unfolding slot_of
@@ -28,37 +29,27 @@ slot_lt count k h =
     ]
 
 -- Where the way in place k leads word q, and what it takes.
-pub record Place (table froms times : List ℕ) (w q : ℕ) : Type 0 where
+pub record Place (table : List ℕ) (ways : List Way) (w q : ℕ) : Type 0 where
   pub few : w < levels_max
-  pub froms_long : w < length froms
-  pub times_long : w < length times
-  pub room : get_or froms w 0 + q < length table
-  pub low : get_or table (get_or froms w 0 + q) 0 ≤ far
-  pub short : get_or times w 0 ≤ job_most
+  pub inside : w < length ways
+  pub room : (way_at ways w).from + q < length table
+  pub low : get_or table ((way_at ways w).from + q) 0 ≤ far
+  pub short : (way_at ways w).time ≤ job_most
 
-pub place : {table froms times : List ℕ} {count q : ℕ} → Leads table (q + 1) count froms times → 1 ≤ count → (w k : ℕ) → w ≡ slot_of count k → Place table froms times w q
-place {count = count} {q} o h w k e =
-    let l : w < count = rw e (slot_lt count k h) in
-    record {
-      few = omega (arith, o.few);
-      froms_long = omega (arith, o.few, o.froms_long);
-      times_long = omega (arith, o.few, o.times_long);
-      room = omega (arith, o.room w l);
-      low = o.low w q l (omega arith);
-      short = o.short w l;
-    }
+pub place : {table : List ℕ} {ways : List Way} {q : ℕ} → Opened table (q + 1) ways → (w k : ℕ) → w ≡ slot_of (length ways) k → Place table ways w q
+place {ways = ways} {q} o w k e =
+    let l : w < length ways = rw e (slot_lt (length ways) k o.some) in
+    record { few = omega (arith, o.leads.few); inside = l; room = omega (arith, o.leads.room w l); low = o.leads.low w q l (omega arith); short = o.leads.short w l }
 
 -- The word and the time together are the time by the way.
-pub time_is : (table froms times : List ℕ) (q w k : ℕ) → w ≡ k → get_or table (get_or froms w 0 + q) 0 + get_or times w 0 ≡ by_way table froms times k q
+pub time_is : (table : List ℕ) (ways : List Way) (q w k : ℕ) → w ≡ k → get_or table ((way_at ways w).from + q) 0 + (way_at ways w).time ≡ by_way table ways k q
 unfolding by_way
-time_is table froms times q w k e = rw e (omega arith)
+time_is table ways q w k e = rw e (omega arith)
 
-pub leads_less : {table froms times : List ℕ} {n count : ℕ} → Leads table n count froms times → (m : ℕ) → m ≤ n → Leads table m count froms times
+pub leads_less : {table : List ℕ} {n : ℕ} {ways : List Way} → Leads table n ways → (m : ℕ) → m ≤ n → Leads table m ways
 leads_less o m h =
     record {
       few = o.few;
-      froms_long = o.froms_long;
-      times_long = o.times_long;
       room = λ k l. omega (arith, o.room k l);
       low = λ k q l g. o.low k q l (omega arith);
       short = o.short;

@@ -6,43 +6,48 @@ use Prim.Native.Nat.{ℕ, zero, suc, ◌+◌, ◌*◌, ◌-◌, ◌≤◌, ◌<�
 use native.Mathlib.Numerals.{add-one}
 use native.Mathlib.Decide.{dec_lt}
 use native.Mathlib.Omega.{arith}
+use Rattle.std.proofs.lemmas.Nat.{mul-add-lt, row_fits}
 use lib.ListN.{length, get_or, set}
 use lib.Seq.{get_or-set_same, get_or-set_other}
 use Rattle.word.specs.Word.{far, job_most}
-use Rattle.one_way.specs.Way.{by_way}
+use Rattle.one_way.specs.declared.Way.{Way}
+use Rattle.one_way.specs.Way.{way_at, by_way}
 use Rattle.least_way.specs.Least.{least_by}
-use Rattle.open_ways.specs.Moves.{Moving, Lows, relaxed_at, Open}
-use Rattle.open_ways.proofs.Moves.{level_end, move_lt, move_within, relaxed_on, relaxed_off}
+use Rattle.open_ways.specs.declared.Move.{Move}
+use Rattle.open_ways.specs.declared.layer.Layer.{Layer}
+use Rattle.open_ways.specs.Moves.{move_at, relaxed_at}
+use Rattle.open_ways.specs.Layer.{Lows, relaxed_by, Open}
+use Rattle.open_ways.proofs.Moves.{move_within, relaxed_on, relaxed_off}
 
--- ---- a way more in the lists
+-- ---- a way more in the list
 
-module _ (froms costs : List ℕ) (i f c : ℕ) (hf : i < length froms) (hc : i < length costs) where
+module _ (ways : List Way) (i : ℕ) (v : Way) (room : i < length ways) where
   -- The ways before it are as they were.
-  from_before : (w : ℕ) → w < i → get_or (set froms i f) w 0 ≡ get_or froms w 0
-  from_before w h = get_or-set_other froms i w f 0 (λ e. absurd (omega arith))
+  way_before : (w : ℕ) → w < i → way_at (set ways i v) w ≡ way_at ways w
+  way_before w h = get_or-set_other ways i w v _ (λ e. absurd (omega arith))
 
-  cost_before : (w : ℕ) → w < i → get_or (set costs i c) w 0 ≡ get_or costs w 0
-  cost_before w h = get_or-set_other costs i w c 0 (λ e. absurd (omega arith))
+  way_last : way_at (set ways i v) i ≡ v
+  way_last = get_or-set_same ways i v _ room
 
   module _ (t : List ℕ) (q : ℕ) where
-    least_before : (k : ℕ) → k ≤ i → least_by t (set froms i f) (set costs i c) k q ≡ least_by t froms costs k q
+    least_before : (k : ℕ) → k ≤ i → least_by t (set ways i v) k q ≡ least_by t ways k q
     unfolding least_by by_way
     least_before zero h = refl
-    least_before (suc k) h = ap₂ (λ (a b : ℕ). min a b) (least_before k (omega arith)) (rw (from_before k (omega arith), cost_before k (omega arith)) refl)
+    least_before (suc k) h = ap₂ (λ (a b : ℕ). min a b) (least_before k (omega arith)) (rw (way_before k (omega arith)) refl)
 
-    least_more : least_by t (set froms i f) (set costs i c) (suc i) q ≡ min (least_by t froms costs i q) (c + get_or t (f + q) 0)
+    least_more : least_by t (set ways i v) (suc i) q ≡ min (least_by t ways i q) (v.time + get_or t (v.from + q) 0)
     unfolding least_by by_way
-    least_more = ap₂ (λ (a b : ℕ). min a b) (least_before i (omega arith)) (rw (get_or-set_same froms i f 0 hf, get_or-set_same costs i c 0 hc) refl)
+    least_more = ap₂ (λ (a b : ℕ). min a b) (least_before i (omega arith)) (rw way_last refl)
 
 -- ---- by one level more
 
-module _ (shifts reaches times : List ℕ) (levels cells at p y end : ℕ) where
-  abbrev Opened : ℕ → ℕ → ℕ → List ℕ → List ℕ → Type 0
-  Opened k count to froms costs = Open shifts reaches times levels cells at p k y end count to froms costs
+module _ (layer : Layer) (p y end : ℕ) where
+  abbrev Opened : ℕ → ℕ → ℕ → List Way → Type 0
+  Opened k count to ways = Open layer p k y end count to ways
 
-  pub open_none : (froms costs : List ℕ) → y < end → Opened 0 0 end froms costs
+  pub open_none : (ways : List Way) → y < end → Opened 0 0 end ways
   unfolding relaxed_at least_by
-  open_none froms costs h =
+  open_none ways h =
       record {
         some = h;
         within = omega arith;
@@ -53,12 +58,12 @@ module _ (shifts reaches times : List ℕ) (levels cells at p y end : ℕ) where
         exact = λ t q l. refl;
       }
 
-  module _ (mv : Moving levels cells shifts reaches times) (hp : p < levels) (k count to : ℕ) (froms costs : List ℕ) (o : Opened k count to froms costs) (hk : k < levels) where
-    abbrev u : ℕ
-    u = p * levels + k
+  module _ (hp : p < layer.levels) (k count to : ℕ) (ways : List Way) (o : Opened k count to ways) (hk : k < layer.levels) where
+    abbrev m : Move
+    m = move_at layer.moves.now (p * layer.levels + k)
 
     -- A level whose move is lawful for none of the words.
-    pub open_less : get_or reaches u 0 ≤ y → Opened (k + 1) count to froms costs
+    pub open_less : m.reach ≤ y → Opened (k + 1) count to ways
     open_less h =
         rw (add-one k)
         record {
@@ -68,57 +73,53 @@ module _ (shifts reaches times : List ℕ) (levels cells at p y end : ℕ) where
           room = o.room;
           low = o.low;
           short = o.short;
-          exact = λ t q l. o.exact t q l ∙ sym (relaxed_off shifts reaches times t levels cells at p k (y + q) (omega arith));
+          exact = λ t q l. o.exact t q l ∙ sym (relaxed_off layer.moves.now t layer.levels layer.cells layer.at p k (y + q) (omega arith));
         }
 
     -- A level whose move is lawful for all words up to its reach.
-    module _ (hf : count < length froms) (hc : count < length costs) (h : y < get_or reaches u 0) where
-      abbrev from : ℕ
-      from = at + k * cells + (y + get_or shifts u 0)
-
-      abbrev time : ℕ
-      time = get_or times u 0
+    module _ (free : count < length ways) (h : y < m.reach) where
+      abbrev way : Way
+      way = record { from = layer.at + k * layer.cells + (y + m.shift); time = m.time }
 
       abbrev upto : ℕ
-      upto = min to (get_or reaches u 0)
+      upto = min to m.reach
 
       -- The way leads to words of its level.
-      inner : (y + (upto - y) + get_or shifts u 0 ≤ cells) × (k * cells + cells ≤ levels * cells)
-      inner = (omega (arith, move_within mv p k hp hk, o.some), level_end k levels cells hk)
+      inner : (y + (upto - y) + m.shift ≤ layer.cells) × (k * layer.cells + layer.cells ≤ layer.levels * layer.cells)
+      inner = (omega (arith, move_within layer.moving p k hp hk, o.some), row_fits k layer.cells layer.levels layer.cells hk (omega arith))
 
-      room : (w : ℕ) → w < suc count → get_or (set froms count from) w 0 + (upto - y) ≤ at + levels * cells
+      room : (w : ℕ) → w < suc count → (way_at (set ways count way) w).from + (upto - y) ≤ layer.at + layer.levels * layer.cells
       room w l =
           elim (dec_lt w count) [
-            | yes z ↦ rw (from_before froms costs count from time hf hc w z) (omega (arith, o.room w z))
-            | no z ↦ let e : w ≡ count = omega arith in rw (e, get_or-set_same froms count from 0 hf) (omega (arith, inner))
+            | yes z ↦ rw (way_before ways count way free w z) (omega (arith, o.room w z))
+            | no z ↦ let e : w ≡ count = omega arith in rw (e, way_last ways count way free) (omega (arith, inner))
           ]
 
-      low : (t : List ℕ) → Lows levels cells at y t → (w q : ℕ) → w < suc count → q < upto - y → get_or t (get_or (set froms count from) w 0 + q) 0 ≤ far
+      low : (t : List ℕ) → Lows layer y t → (w q : ℕ) → w < suc count → q < upto - y → get_or t ((way_at (set ways count way) w).from + q) 0 ≤ far
       low t v w q l g =
           elim (dec_lt w count) [
-            | yes z ↦ rw (from_before froms costs count from time hf hc w z) (o.low t v w q z (omega arith))
+            | yes z ↦ rw (way_before ways count way free w z) (o.low t v w q z (omega arith))
             | no z ↦
                 let e : w ≡ count = omega arith in
-                let s : from + q ≡ at + k * cells + (y + get_or shifts u 0 + q) = omega arith in
-                rw (e, get_or-set_same froms count from 0 hf, s) (v.low k (y + get_or shifts u 0 + q) hk (omega arith) (omega (arith, inner)))
+                let s : way.from + q ≡ layer.at + k * layer.cells + (y + m.shift + q) = omega arith in
+                rw (e, way_last ways count way free, s) (v.low k (y + m.shift + q) hk (omega arith) (omega (arith, inner)))
           ]
 
-      short : (w : ℕ) → w < suc count → get_or (set costs count time) w 0 ≤ job_most
+      short : (w : ℕ) → w < suc count → (way_at (set ways count way) w).time ≤ job_most
       short w l =
           elim (dec_lt w count) [
-            | yes z ↦ rw (cost_before froms costs count from time hf hc w z) (o.short w z)
-            | no z ↦ let e : w ≡ count = omega arith in rw (e, get_or-set_same costs count time 0 hc) (mv.short u (move_lt levels p k hp hk))
+            | yes z ↦ rw (way_before ways count way free w z) (o.short w z)
+            | no z ↦ let e : w ≡ count = omega arith in rw (e, way_last ways count way free) (layer.moving.short (p * layer.levels + k) (mul-add-lt p layer.levels k layer.levels hp hk))
           ]
 
-      exact : (t : List ℕ) (q : ℕ) → q < upto - y
-          → least_by t (set froms count from) (set costs count time) (suc count) q ≡ relaxed_at shifts reaches times t levels cells at p (suc k) (y + q)
+      exact : (t : List ℕ) (q : ℕ) → q < upto - y → least_by t (set ways count way) (suc count) q ≡ relaxed_by layer t p (suc k) (y + q)
       exact t q l =
-          let s : from + q ≡ at + k * cells + (y + q + get_or shifts u 0) = omega arith in
-          least_more froms costs count from time hf hc t q
-          ∙ ap₂ (λ (a b : ℕ). min a (time + get_or t b 0)) (o.exact t q (omega arith)) s
-          ∙ sym (relaxed_on shifts reaches times t levels cells at p k (y + q) (omega arith))
+          let s : way.from + q ≡ layer.at + k * layer.cells + (y + q + m.shift) = omega arith in
+          least_more ways count way free t q
+          ∙ ap₂ (λ (a b : ℕ). min a (m.time + get_or t b 0)) (o.exact t q (omega arith)) s
+          ∙ sym (relaxed_on layer.moves.now t layer.levels layer.cells layer.at p k (y + q) (omega arith))
 
-      pub open_more : Opened (k + 1) (count + 1) upto (set froms count from) (set costs count time)
+      pub open_more : Opened (k + 1) (count + 1) upto (set ways count way)
       open_more =
           rw (add-one k, add-one count)
           record { some = omega (arith, o.some); within = omega (arith, o.within); few = omega (arith, o.few); room = room; low = low; short = short; exact = exact }

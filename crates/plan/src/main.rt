@@ -5,43 +5,31 @@ ghost use Rattle.std.specs.Prelude.{◌≤◌, length};
 ghost use Rattle.plan.specs.Input.{Within, More};
 
 use plan_text::TEXT_LEAST;
+use std::io;
 use std::io::{Read, Stdin};
 
-// How many bytes came, or that reading failed.
-#[derive(Drop)]
-enum Input {
-    Bytes(usize),
-    Unreadable,
-}
-
 // Reads once, to place n of the buffer; 0 bytes are the input's end.
-fn read_more(stdin: &mut Stdin, sheet: &mut [u8], n: usize) -> Input
+fn read_more(stdin: &mut Stdin, sheet: &mut [u8], n: usize) -> io::Result<usize>
     requires { n ≤ length sheet.old }
     ensures { More sheet.old sheet.new n result }
 {
-    let got = stdin.read(&mut sheet[n..]);
-    match got {
-        Ok(count) => Input::Bytes(count),
-        Err(_) => Input::Unreadable,
-    }
+    stdin.read(&mut sheet[n..])
 }
 
-// Reads until the input ends or the buffer is full: a pipe hands its bytes over in pieces.
-fn read_sheet(stdin: &mut Stdin, sheet: &mut [u8]) -> Input
+// Reads until the input ends or the buffer is full: a pipe hands its bytes over in pieces, as long as it likes, so that no range has
+// the steps of the loop.
+fn read_sheet(stdin: &mut Stdin, sheet: &mut [u8]) -> io::Result<usize>
     ensures { Within 0 result sheet.new }
 {
     let mut n: usize = 0;
     while n < sheet.len() {
-        let more = read_more(stdin, sheet, n);
-        let Input::Bytes(count) = more else {
-            return Input::Unreadable;
-        };
+        let count = read_more(stdin, sheet, n)?;
         if count == 0 {
             break;
         }
         n += count;
     }
-    Input::Bytes(n)
+    Ok(n)
 }
 
 // Says on standard error what cannot be done. Where that cannot be written either, nothing is left to tell.
@@ -61,9 +49,8 @@ fn print_plan(rt: &(impl Print + Eprint), sheet: &[u8]) {
 // The first 20,481 bytes tell what is printed, however long the input is: `cut_same` in crates/printout/proofs/Cut.antt.
 fn main(rt: HostRuntime) {
     let mut sheet = [0u8; 20481];
-    let input = read_sheet(&mut rt.stdin(), &mut sheet);
-    match input {
-        Input::Bytes(n) => print_plan(&rt, &sheet[..n]),
-        Input::Unreadable => complain(&rt, "plan: standard input cannot be read"),
+    match read_sheet(&mut rt.stdin(), &mut sheet) {
+        Ok(n) => print_plan(&rt, &sheet[..n]),
+        Err(_) => complain(&rt, "plan: standard input cannot be read"),
     }
 }

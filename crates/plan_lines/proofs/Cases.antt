@@ -3,7 +3,8 @@
 use mathlib.Core.Path.{◌≡◌, refl}
 use mathlib.Core.List.{List, [], ◌∷◌}
 use Prim.Native.Nat.{ℕ}
-use Rattle.writer.specs.Decimal.{digits_in, decimal, field}
+use Rattle.std.specs.Fmt.{digits}
+use Rattle.writer.specs.Decimal.{field}
 use Rattle.plan_lines.specs.Lines.{line_end, plan_line, job_line, refusal_line}
 use Rattle.plan_lines.specs.Cases.{Case, cases}
 
@@ -16,5 +17,5 @@ expected [] = []
 expected (c ∷ cs) = c.expected ∷ expected cs
 
 pub cases_hold : given cases ≡ expected cases
-unfolding plan_line job_line refusal_line line_end field decimal digits_in
+unfolding plan_line job_line refusal_line line_end field digits
 cases_hold = refl

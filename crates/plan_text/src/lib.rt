@@ -1,62 +1,49 @@
-#![tactic(auto)]
+#![tactic(auto, using(writer::proofs::Written::moved))]
 
-ghost use Rattle.std.specs.Prelude.{◌+◌, ◌*◌, ◌≤◌, length, take, drop};
+ghost use Rattle.std.specs.Prelude.{◌+◌, ◌*◌, ◌≤◌, length, take};
 ghost use Rattle.frame.specs.Run.{start};
 ghost use Rattle.store.specs.Figures.{sheet_of};
 ghost use Rattle.name_places.specs.Place.{next_name};
 ghost use Rattle.names.specs.Name.{name_of};
-ghost use Rattle.writer.specs.Written.{Wrote};
+ghost use Rattle.writer.specs.Written.{Wrote, Writes, Room};
 ghost use Rattle.plan_lines.specs.Lines.{job_line, job_line_max};
 ghost use Rattle.plan_text.specs.Text.{text_least, job_text_from, plan_text};
 ghost use Rattle.plan_text.specs.Handed.{Ended, Handed};
 
 use run::Run;
+use step::Figures;
 use store::{Head, STORE_SIZE};
+use writer::Writer;
 
 // "part under m bytes (text: under 4,096)" is refused: no plan's text is longer.
 pub const TEXT_LEAST: usize = 4_096;
 
-// Writes the Q line of a job that ends in `run`; its J line starts at `p`.
-fn put_job(s: &[u8], p: usize, text: &mut [u8], at: usize, run: Run) -> usize
-    requires { Ended s.now p text.old at run }
-    ensures wrote { Wrote text.old at (job_line (next_name (drop p s.now)) run.level run.time run.energy run.temperature) text.new result }
-    ensures upper_bound { result ≤ at + job_line_max }
+// Writes the Q line of a job that ends in `run`; the text starts with its J line.
+fn put_job(t: &[u8], writer: &mut Writer, run: Run)
+    requires { Ended t.now writer.old run }
+    ensures wrote { Writes writer.old writer.new (job_line (next_name t.now) run.level run.time run.energy run.temperature) }
+    ensures upper_bound { writer.new.at ≤ writer.old.at + job_line_max }
 {
+    let name = name_places::name_on(t);
     let level = run.level as u64;
-    let time = run.time;
-    let energy = run.energy;
-    let temperature = run.temperature;
-    let name = name_places::name_on(s, p);
-    plan_lines::put_job_line(text, at, name, level, time, energy, temperature)
+    plan_lines::put_job_line(writer, name, level, run.time, run.energy, run.temperature);
 }
 
-// Writes the Q lines of a list of levels from `at` on.
-fn put_jobs(
-    s: &[u8],
-    head: Head,
-    store: &[u32; STORE_SIZE],
-    levels: &[u8],
-    text: &mut [u8],
-    at: usize,
-) -> usize
-    requires { record { handed : Handed s.now head store.now levels.now; room : at + head.jobs * job_line_max ≤ length text.old } }
-    ensures wrote { Wrote text.old at (job_text_from (name_of s.now) (sheet_of head store.now) 0 (start (sheet_of head store.now)) (take head.jobs levels.now)) text.new result }
-    ensures upper_bound { result ≤ at + head.jobs * job_line_max }
+// Writes the Q lines of a list of levels.
+fn put_jobs(s: &[u8], head: Head, store: &[u32; STORE_SIZE], levels: &[u8], writer: &mut Writer)
+    requires { record { handed : Handed s.now head store.now levels.now; room : Room writer.old (head.jobs * job_line_max) } }
+    ensures wrote { Writes writer.old writer.new (job_text_from (name_of s.now) (sheet_of head store.now) 0 (start (sheet_of head store.now)) (take head.jobs levels.now)) }
+    ensures upper_bound { writer.new.at ≤ writer.old.at + head.jobs * job_line_max }
 {
-    let states = step::steady_states(store, head.resistance);
-    let steady = states.levels;
+    let figures = Figures::of(store, head.resistance);
     let l = head.levels as usize;
     let mut run = step::start_of(head);
-    let mut p = name_places::skip_lines(s, 0, names::lines_before(l, 0));
-    let mut q = at;
-    let mut i: usize = 0;
-    while i < head.jobs as usize {
-        run = step::next_job(run, store, &steady, levels[i] as u32);
-        q = put_job(s, p, text, q, run);
-        p = name_places::skip_lines(s, p, names::job_lines(l));
-        i += 1;
+    let mut rest = name_places::skip_lines(s, names::lines_before(l, 0));
+    for &level in &levels[..head.jobs as usize] {
+        run = figures.next_job(run, level as u32);
+        put_job(rest, writer, run);
+        rest = name_places::skip_lines(rest, names::job_lines(l));
     }
-    q
 }
 
 // Writes the text of a list of levels on a sheet that was read: the P line of its figures, and a Q line for each job.
@@ -71,14 +58,12 @@ pub fn put_plan(
     ensures wrote { Wrote text.old 0 (plan_text s.now (sheet_of head store.now) (take head.jobs levels.now)) text.new result }
     ensures upper_bound { result ≤ text_least }
 {
-    let m = head.jobs as usize;
-    let states = step::steady_states(store, head.resistance);
-    let steady = states.levels;
+    let figures = Figures::of(store, head.resistance);
     let first = step::start_of(head);
-    let last = step::run_levels(first, store, &steady, levels, m);
-    let time = last.time;
-    let energy = last.energy;
-    let temperature = last.temperature;
-    let at = plan_lines::put_plan_line(text, 0, m as u64, time, energy, temperature);
-    put_jobs(s, head, store, levels, text, at)
+    let last = figures.run_levels(first, &levels[..head.jobs as usize]);
+    let jobs = head.jobs as u64;
+    let mut writer = Writer { part: text, at: 0 };
+    plan_lines::put_plan_line(&mut writer, jobs, last.time, last.energy, last.temperature);
+    put_jobs(s, head, store, levels, &mut writer);
+    writer.at
 }

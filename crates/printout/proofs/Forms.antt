@@ -7,28 +7,29 @@ use native.Mathlib.Omega.{arith}
 use lib.ListN.{length, drop}
 use borrow.Author.Tests.{le-ltb}
 use Rattle.frame.specs.Demands.{planned, no_plan}
-use Rattle.sheet.proofs.Places.{refusal_line_most, refusal_field}
+use Rattle.refusal.specs.Code.{number_of, line_of, field_of}
+use Rattle.refusal.proofs.Apart.{number_bounds}
+use Rattle.sheet.proofs.Whole.{read_refused}
 use Rattle.reply.specs.Answer.{Answer, refused, found}
 use Rattle.demands.proofs.Ways.{answer_ways}
 use Rattle.plan_lines.specs.Lines.{refusal_line}
 use Rattle.store.specs.Store.{jobs_max}
 use Rattle.body.specs.Body.{end_line}
 use Rattle.plan_text.specs.Text.{text_least, plan_text}
-use Rattle.report.specs.declared.Report.{Report}
-use Rattle.report.specs.Report.{table_words, answer_in, report_of, text_after}
+use Rattle.report.specs.Report.{Report, table_words, answer_in, report_of, text_after}
 use Rattle.writer.specs.Written.{Wrote}
 use Rattle.printout.specs.Printout.{printout_for, printout}
 
 -- A refusal's number, line and field are small.
 abbrev Small : Answer → Type 0
-Small (refused number line field) = (1 ≤ number) × (number ≤ 9) × (line ≤ end_line) × (field ≤ 11)
+Small (refused f) = (number_of f ≤ 9) × (line_of f ≤ end_line) × (field_of f ≤ 11)
 Small (found s n a o) = Unit
 
 answer_small : (t : List ℕ) → Small (answer_in t)
 unfolding answer_in
 answer_small t =
-    answer_ways Small (λ n l h. (omega arith, omega arith, omega arith, omega arith)) t table_words jobs_max
-    (λ l h. (l, omega arith, refusal_line_most t, refusal_field t)) (λ e h. (omega arith, omega arith, omega arith, omega arith)) (λ e. tt)
+    answer_ways Small (omega arith, omega arith, omega arith) (omega arith, omega arith, omega arith) t table_words jobs_max
+    (λ f h. let w = read_refused t f h in (omega (arith, w.number), w.line, w.field)) (λ e h. (omega arith, omega arith, omega arith)) (λ e. tt)
 
 -- What an R line's room rests on.
 pub record Short (r : Report) : Type 0 where
@@ -39,7 +40,7 @@ pub record Short (r : Report) : Type 0 where
 module _ (t text text' : List ℕ) (room : text_least ≤ length text) (r : Report) where
   text_stands : (a : Answer) → Small a → r ≡ report_of t (length text) a → text' ≡ text_after t a text → r.refusal ≡ 0 → r.length ≤ text_least →
       Wrote text 0 (printout_for t a) text' r.length
-  text_stands (refused number line field) n e w z most = absurd (omega (arith, n, ap (λ (x : Report). x.refusal) e))
+  text_stands (refused f) n e w z most = absurd (omega (arith, number_bounds f, ap (λ (x : Report). x.refusal) e))
   text_stands (found s k a (planned js)) n e w z most =
       let q : r ≡ record { refusal = 0; line = 0; field = 0; length = length (plan_text t s js) } = rw (le-ltb (length text) text_least room) at e in
       let l : r.length ≡ length (plan_text t s js) = ap (λ (x : Report). x.length) q in
@@ -53,7 +54,7 @@ module _ (t text text' : List ℕ) (room : text_least ≤ length text) (r : Repo
   -- "no plan" and the refusals before it leave the part.
   line_due : (a : Answer) → Small a → r ≡ report_of t (length text) a → text' ≡ text_after t a text → ¬ (r.refusal ≡ 0) →
       Short r × ((text' ≡ text) × (refusal_line r.refusal r.line r.field ≡ printout_for t a))
-  line_due (refused number line field) n e w z = rw e (record { number = omega (arith, n); line = n.2; field = n.3 }, (w, refl))
+  line_due (refused f) n e w z = rw e (record { number = omega (arith, n); line = n.1; field = n.2 }, (w, refl))
   line_due (found s k a (planned js)) n e w z =
       let q : r ≡ record { refusal = 0; line = 0; field = 0; length = length (plan_text t s js) } = rw (le-ltb (length text) text_least room) at e in
       absurd (z (ap (λ (x : Report). x.refusal) q))

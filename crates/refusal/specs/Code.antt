@@ -1,60 +1,73 @@
--- What is refused (document 01, 'What is refused'): a line's fault as a refusal, a refusal's number, line and field, and what follows
--- where there is none.
+-- What is refused (document 01, 'What is refused'; document 02, W1): a line's fault as a refusal, a refusal's number, line and field, and
+-- what follows where there is none.
 -- Assumes nothing.
-use Rattle.std.specs.Prelude.{ℕ}
+use Rattle.std.specs.Prelude.{ℕ, Option, Some, None}
 use Rattle.fields.specs.declared.Fault.{Fault}
-use Rattle.fields.specs.declared.Fault.TheVariants.{Sound, Shape, Form, Range}
+use Rattle.fields.specs.declared.Fault.TheVariants.{Shape, Form, Range}
 use Rattle.refusal.specs.declared.Refusal.{Refusal}
-use Rattle.refusal.specs.declared.RefusalCode.{RefusalCode}
-use Rattle.refusal.specs.declared.Refusal.TheVariants.{Nothing, TooLong, Line, Form as FormAt, Range as RangeAt, Hot, Trailing}
+use Rattle.refusal.specs.declared.Refusal.TheVariants.{TooLong, Line, Form as FormAt, Range as RangeAt, Hot, Trailing, TableTooLarge, TableShort, PartShort, NoPlan, ListLength, LevelTooHigh, AllDone, ReadingRange, ReadingHot}
 
 -- A fault of a line as a refusal: 2 for its letter, its count of fields or a missing line, 3 for a field's form, 4 for a field's range.
 abbrev pub refusal_of : Fault → ℕ → Refusal
-refusal_of Sound line = Nothing
 refusal_of Shape line = Line line
 refusal_of (Form field) line = FormAt line field
 refusal_of (Range field) line = RangeAt line field
 
--- The number that document 01 gives a refusal; 0 for none.
+-- The number that document 01 gives a refusal.
 abbrev pub number_of : Refusal → ℕ
-number_of Nothing = 0
 number_of TooLong = 1
 number_of (Line line) = 2
 number_of (FormAt line field) = 3
 number_of (RangeAt line field) = 4
 number_of Hot = 5
 number_of (Trailing line) = 6
+number_of TableTooLarge = 7
+number_of TableShort = 8
+number_of PartShort = 9
+number_of NoPlan = 10
+number_of ListLength = 11
+number_of (LevelTooHigh place) = 12
+number_of AllDone = 13
+number_of ReadingRange = 14
+number_of ReadingHot = 5
 
--- The line that it returns; 5 is "line 2, field 8".
+-- The line that it returns; a sheet's 5 is "line 2, field 8", and "A reading above the ceiling is number 5 with line 0, field 0".
 abbrev pub line_of : Refusal → ℕ
-line_of Nothing = 0
 line_of TooLong = 0
 line_of (Line line) = line
 line_of (FormAt line field) = line
 line_of (RangeAt line field) = line
 line_of Hot = 2
 line_of (Trailing line) = line
+line_of TableTooLarge = 0
+line_of TableShort = 0
+line_of PartShort = 0
+line_of NoPlan = 0
+line_of ListLength = 0
+line_of (LevelTooHigh place) = 0
+line_of AllDone = 0
+line_of ReadingRange = 0
+line_of ReadingHot = 0
 
--- The field that it returns.
+-- The field that it returns; of 12 it is "field the first such place, from 0".
 abbrev pub field_of : Refusal → ℕ
-field_of Nothing = 0
 field_of TooLong = 0
 field_of (Line line) = 0
 field_of (FormAt line field) = field
 field_of (RangeAt line field) = field
 field_of Hot = 8
 field_of (Trailing line) = 0
+field_of TableTooLarge = 0
+field_of TableShort = 0
+field_of PartShort = 0
+field_of NoPlan = 0
+field_of ListLength = 0
+field_of (LevelTooHigh place) = place
+field_of AllDone = 0
+field_of ReadingRange = 0
+field_of ReadingHot = 0
 
--- What follows the reading of a sheet: where it is refused, what is made of its refusal, and else what comes next.
-abbrev pub accepted : {X : Type 0} → Refusal → (Refusal → X) → X → X
-accepted Nothing away go = go
-accepted TooLong away go = away TooLong
-accepted (Line line) away go = away (Line line)
-accepted (FormAt line field) away go = away (FormAt line field)
-accepted (RangeAt line field) away go = away (RangeAt line field)
-accepted Hot away go = away Hot
-accepted (Trailing line) away go = away (Trailing line)
-
--- A refusal's number, line and field, side by side.
-abbrev pub code_as : ℕ → ℕ → ℕ → RefusalCode
-code_as number line field = record { number = number; line = line; field = field }
+-- What follows a test: where it refuses, what is made of its refusal, and else what comes next.
+abbrev pub accepted : {X : Type 0} → Option Refusal → (Refusal → X) → X → X
+accepted None away go = go
+accepted (Some f) away go = away f

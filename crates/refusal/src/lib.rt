@@ -1,64 +1,90 @@
 #![tactic(auto)]
 
 ghost use Rattle.std.specs.Prelude.{◌≡◌};
-ghost use Rattle.refusal.specs.Code.{refusal_of, number_of, line_of, field_of, code_as};
+ghost use Rattle.refusal.specs.Code.{refusal_of, number_of, line_of, field_of};
 
 use fields::Fault;
 
-// Why a sheet is refused, with line and field where there are any (document 01, 'What is refused').
-#[derive(Drop)]
+// Why a sheet, a list of levels or a reading is refused, with line and field where there are any (document 01, 'What is refused';
+// document 02, W1).
+#[derive(Clone, Copy)]
 pub enum Refusal {
-    Nothing,
-    TooLong,
-    Line(usize),
-    Form(usize, usize),
-    Range(usize, usize),
-    Hot,
-    Trailing(usize),
+    TooLong, // 1, "sheet over 20,480 bytes"
+    Line(usize), // 2, "line missing (no byte 10 ahead), wrong letter, wrong field count"
+    Form(usize, usize), // 3, "field, or job name, not of the written form"
+    Range(usize, usize), // 4, "field out of its range"
+    Hot, // 5, "start temperature in range, above ceiling"
+    Trailing(usize), // 6, "bytes after the last line"
+    TableTooLarge, // 7, "need above 4,194,304 words"
+    TableShort, // 8, "table shorter than the need"
+    PartShort, // 9, "part under m bytes (text: under 4,096)"
+    NoPlan, // 10, "no plan"
+    ListLength, // 11, "list length is not m"
+    LevelTooHigh(usize), // 12, "a level is l or more", and "the first such place, from 0"
+    AllDone, // 13, "jobs done is m or more"
+    ReadingRange, // 14, "the level is l or more, time or energy is above 2,000,000,000, or temperature is above 20,000"
+    ReadingHot, // 5, "A reading above the ceiling"
 }
 
-// A refusal in document 01's numbers: its own, and the line and the field that it returns.
-#[derive(Drop)]
-pub struct RefusalCode {
-    pub number: u32,
-    pub line: usize,
-    pub field: usize,
+impl Refusal {
+    // The number that document 01 gives it.
+    pub fn number(self) -> u32
+        ensures { result ≡ number_of self }
+    {
+        match self {
+            Refusal::TooLong => 1,
+            Refusal::Line(_) => 2,
+            Refusal::Form(_, _) => 3,
+            Refusal::Range(_, _) => 4,
+            Refusal::Hot => 5,
+            Refusal::Trailing(_) => 6,
+            Refusal::TableTooLarge => 7,
+            Refusal::TableShort => 8,
+            Refusal::PartShort => 9,
+            Refusal::NoPlan => 10,
+            Refusal::ListLength => 11,
+            Refusal::LevelTooHigh(_) => 12,
+            Refusal::AllDone => 13,
+            Refusal::ReadingRange => 14,
+            Refusal::ReadingHot => 5,
+        }
+    }
+
+    // The line that is returned with it.
+    pub fn line(self) -> usize
+        ensures { result ≡ line_of self }
+    {
+        match self {
+            Refusal::Line(line) => line,
+            Refusal::Form(line, _) => line,
+            Refusal::Range(line, _) => line,
+            Refusal::Hot => 2,
+            Refusal::Trailing(line) => line,
+            _ => 0,
+        }
+    }
+
+    // The field that is returned with it.
+    pub fn field(self) -> usize
+        ensures { result ≡ field_of self }
+    {
+        match self {
+            Refusal::Form(_, field) => field,
+            Refusal::Range(_, field) => field,
+            Refusal::Hot => 8,
+            Refusal::LevelTooHigh(place) => place,
+            _ => 0,
+        }
+    }
 }
 
-// A fault of a line as a refusal.
-pub fn as_refusal(f: Fault, line: usize) -> Refusal
-    ensures { result ≡ refusal_of f line }
+// The fault of a line as a refusal. No `From`, as a fault alone does not know its line.
+pub fn of_line(fault: Fault, line: usize) -> Refusal
+    ensures { result ≡ refusal_of fault line }
 {
-    match f {
-        Fault::Sound => Refusal::Nothing,
+    match fault {
         Fault::Shape => Refusal::Line(line),
         Fault::Form(field) => Refusal::Form(line, field),
         Fault::Range(field) => Refusal::Range(line, field),
-    }
-}
-
-// The three side by side.
-fn code(number: u32, line: usize, field: usize) -> RefusalCode
-    ensures { result ≡ code_as number line field }
-{
-    RefusalCode {
-        number,
-        line,
-        field,
-    }
-}
-
-// The numbers of a refusal; all 0 for none.
-pub fn code_of(f: Refusal) -> RefusalCode
-    ensures { result ≡ code_as (number_of f) (line_of f) (field_of f) }
-{
-    match f {
-        Refusal::Nothing => code(0, 0, 0),
-        Refusal::TooLong => code(1, 0, 0),
-        Refusal::Line(line) => code(2, line, 0),
-        Refusal::Form(line, field) => code(3, line, field),
-        Refusal::Range(line, field) => code(4, line, field),
-        Refusal::Hot => code(5, 2, 8),
-        Refusal::Trailing(line) => code(6, line, 0),
     }
 }

@@ -5,7 +5,7 @@ use Prim.Native.Nat.{ℕ}
 use Rattle.frame.specs.Sheet.{Sheet, Between}
 use Rattle.frame.specs.Run.{State, exact_run}
 use Rattle.frame.specs.Demands.{planned}
-use Rattle.reply.specs.declared.Reply.{Reply}
+use Rattle.reply.specs.Reply.{Reply}
 use Rattle.reply.specs.Answer.{found, Answers}
 
 -- "at least the highest temperature at a job end of that run and at most C"

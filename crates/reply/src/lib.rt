@@ -1,48 +1,29 @@
 #![tactic(auto)]
 
 ghost use Rattle.std.specs.Prelude.{◌≡◌};
-ghost use Rattle.reply.specs.Answer.{refused_reply, planned_as};
+ghost use Rattle.reply.specs.Reply.{totals_of};
 
 use run::Run;
 
-// What the planner says of a sheet: a refusal's number, line and field, or the figures of a plan.
+// What the planner says of a plan: "total time, energy and final temperature of the run without grains, and a peak figure".
 #[derive(Clone, Copy)]
-pub struct Reply {
-    pub refusal: u32,
-    pub line: usize,
-    pub field: usize,
+pub struct Totals {
     pub time: u64,
     pub energy: u64,
     pub temperature: u64,
     pub peak: u64,
 }
 
-// A refused reply: "Every figure of a refused reply not named is 0."
-pub fn refuse(refusal: u32, line: usize, field: usize) -> Reply
-    ensures { result ≡ refused_reply refusal line field }
-{
-    Reply {
-        refusal,
-        line,
-        field,
-        time: 0,
-        energy: 0,
-        temperature: 0,
-        peak: 0,
-    }
-}
+// The figures of the run of a plan's levels.
+impl From<Run> for Totals {
+    ghost from_gives = { λ run totals. totals ≡ totals_of run };
 
-// A plan's reply, by the run of its levels.
-pub fn planned(run: Run) -> Reply
-    ensures { result ≡ planned_as (record { time = run.time; energy = run.energy; temperature = run.temperature }) run.peak }
-{
-    Reply {
-        refusal: 0,
-        line: 0,
-        field: 0,
-        time: run.time,
-        energy: run.energy,
-        temperature: run.temperature,
-        peak: run.peak,
+    fn from(run: Run) -> Totals {
+        Totals {
+            time: run.time,
+            energy: run.energy,
+            temperature: run.temperature,
+            peak: run.peak,
+        }
     }
 }

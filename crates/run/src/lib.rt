@@ -1,6 +1,6 @@
 #![tactic(auto)]
 
-ghost use Rattle.std.specs.Prelude.{◌≡◌, max};
+ghost use Rattle.std.specs.Prelude.{◌≡◌};
 ghost use Rattle.frame.specs.Sheet.{Sheet};
 ghost use Rattle.frame.specs.Run.{fresh, step};
 ghost use Rattle.run.specs.Run.{state_of, FiguresOf, Bounds};
@@ -33,24 +33,17 @@ pub struct Job {
     pub decay: u32,
 }
 
-// The larger of two temperatures: the peak is "the highest temperature at a job end".
-fn larger(a: u64, b: u64) -> u64
-    ensures { result ≡ max a b }
-{
-    if a < b { b } else { a }
-}
-
 impl Run {
     // A run from which time counts anew and no job end is seen yet.
     pub fn fresh(done: u32, level: u32, energy: u64, temperature: u64) -> Run
         ensures { state_of result ≡ fresh done level energy temperature }
     {
         Run {
-            done: done,
-            level: level,
+            done,
+            level,
             time: 0,
-            energy: energy,
-            temperature: temperature,
+            energy,
+            temperature,
             peak: 0,
         }
     }
@@ -76,14 +69,14 @@ impl Run {
             job.steady as u64,
             job.decay as u64,
         );
-        let peak = larger(self.peak, temperature);
+        let peak = self.peak.max(temperature);
         Run {
-            done: done,
-            level: level,
-            time: time,
-            energy: energy,
-            temperature: temperature,
-            peak: peak,
+            done,
+            level,
+            time,
+            energy,
+            temperature,
+            peak,
         }
     }
 }

@@ -2,4 +2,3 @@ pub mod Cases
 pub mod Sheet
 pub mod Whole
 pub mod Ranges
-pub mod Places

@@ -2,7 +2,7 @@
 -- Assumes nothing.
 use mathlib.Core.Path.{◌≡◌, refl, sym, ap, subst, ◌∙◌}
 use mathlib.Core.List.{List}
-use Prim.Native.Nat.{ℕ, zero, suc, ◌+◌, ◌*◌, ◌-◌, ◌≤◌, ◌<◌}
+use Prim.Native.Nat.{ℕ, zero, suc, ◌+◌, ◌*◌, ◌≤◌, ◌<◌}
 use native.Mathlib.Decide.{dec_lt}
 use native.Mathlib.Omega.{arith}
 use lib.Dec.{ltb}
@@ -12,33 +12,44 @@ use Rattle.text.specs.Text.{until, beyond, ahead}
 use Rattle.thermal.specs.Thermal.{steady_state}
 use Rattle.frame.specs.Sheet.{Ranges}
 use Rattle.name_lines.specs.Name.{name_fault}
-use Rattle.fields.specs.declared.Fault.TheVariants.{Sound}
-use Rattle.fields.proofs.Within.{Held, shapeless}
+use Rattle.fields.specs.declared.Fault.{Fault}
+use Rattle.fields.specs.declared.Fault.TheVariants.{Shape}
 use Rattle.lines.specs.Lines.{Found, block_from}
 use Rattle.line_kinds.specs.declared.Kind.TheVariants.{Level, Change, Work}
 use Rattle.fields.proofs.Within.{cond_cases}
 use Rattle.fields.proofs.After.{after_cases}
 use Rattle.lines.proofs.Kept.{Kept, kept_zeros, block_kept, Fits, fits_zero, level_takes, change_takes, work_takes, Timed, work_stays, work_timed}
 use Rattle.body.specs.Body.{body_line, onward, changes_from, jobs_from, body_from}
-use Rattle.refusal.specs.declared.Refusal.TheVariants.{Nothing}
+use Rattle.std.specs.Prelude.{Option, Some, None, Result, Ok, Err, IfOk}
+use Rattle.std.specs.Option.{option_map_or}
+use Rattle.std.proofs.lemmas.Option.{none-some}
+use Rattle.refusal.specs.declared.Refusal.{Refusal}
 use Rattle.store.specs.Store.{jobs_max, levels_max, changes_max, works_max, powers, change_times, change_energies, job_times, job_energies, decays, store_size}
-use Rattle.sheet.specs.declared.Reading.{Reading}
 use Rattle.sheet.specs.Reading.{SheetRead, read_in, reading_of, sheet_in}
+use Rattle.store.specs.declared.Head.{Head}
 use Rattle.store.specs.Figures.{figure_at, sheet_of}
-use Rattle.head.specs.Head.{head_as, head_los, head_his}
-use Rattle.sheet.proofs.Whole.{read_whole}
+use Rattle.head.proofs.Head.{InRange}
+use Rattle.sheet.proofs.Whole.{read_whole, read_on}
 
 -- ---- the lines after the H line
 
 -- What was found of m jobs at l levels: every figure in its range, and, where it is sound, every time of a job at least 1.
 record Filled (resistance m l : ℕ) (f : Found) : Type 0 where
   kept : Kept (Fits resistance) f.store
-  timed : f.fault ≡ Sound → (i j : ℕ) → i < m → j < l → Timed f.store (i * levels_max + j)
+  timed : f.fault ≡ None → (i j : ℕ) → i < m → j < l → Timed f.store (i * levels_max + j)
 
 module _ (resistance m l : ℕ) (jobs : m ≤ jobs_max) (few : l ≤ levels_max) where
   -- A stop before the end.
-  stopped : (f : Found) → Kept (Fits resistance) f.store → (f.fault ≡ Sound → ⊥) → Filled resistance m l f
+  stopped : (f : Found) → Kept (Fits resistance) f.store → (f.fault ≡ None → ⊥) → Filled resistance m l f
   stopped f z o = record { kept = z; timed = λ e. absurd (o e) }
+
+  -- What goes on where lines are sound.
+  onward_cases : (P : Found → Type 0) (f : Found) (go : List ℕ → ℕ → List ℕ → Found) → ((f.fault ≡ None → ⊥) → P f) → (f.fault ≡ None → P (go f.rest f.line f.store)) → P (onward f go)
+  onward_cases P f go a b = on f.fault refl
+    where
+      on : (o : Option Fault) → f.fault ≡ o → P (option_map_or (λ fault. f) o (go f.rest f.line f.store))
+      on None e = b e
+      on (Some fault) e = a (λ q. none-some fault (sym q ∙ e))
 
   -- The S lines of the next n levels left.
   changes_kept : (n p : ℕ) (t : List ℕ) (ln : ℕ) (st : List ℕ) → p + n ≤ levels_max → Kept (Fits resistance) st → Kept (Fits resistance) (changes_from l n p t ln st).store
@@ -46,8 +57,8 @@ module _ (resistance m l : ℕ) (jobs : m ≤ jobs_max) (few : l ≤ levels_max)
   changes_kept zero p t ln st h z = z
   changes_kept (suc n) p t ln st h z =
       let f = block_from (Change p) (p * levels_max) l 0 t ln st in
-      let y = block_kept (Fits resistance) (Change p) (p * levels_max) l (omega arith) (λ j line a. change_takes resistance p (omega arith) j line (omega arith)) l 0 t ln st (omega arith) z in
-      after_cases (λ (g : Found). Kept (Fits resistance) g.store) f.fault f _ (λ o. y) (λ s. changes_kept n (p + 1) f.rest f.line f.store (omega arith) y)
+      let y = block_kept (Fits resistance) (Change p) (p * levels_max) l (omega arith) (λ j line entry a. change_takes resistance p (omega arith) j line entry (omega arith)) l 0 t ln st (omega arith) z in
+      onward_cases (λ (g : Found). Kept (Fits resistance) g.store) f (changes_from l n (p + 1)) (λ o. y) (λ s. changes_kept n (p + 1) f.rest f.line f.store (omega arith) y)
 
   -- The lines of the next n jobs, with the times of i jobs in the store.
   jobs_filled : (n i : ℕ) (t : List ℕ) (ln : ℕ) (st : List ℕ) → i + n ≡ m → Kept (Fits resistance) st →
@@ -56,12 +67,11 @@ module _ (resistance m l : ℕ) (jobs : m ≤ jobs_max) (few : l ≤ levels_max)
   jobs_filled zero i t ln st h z w = record { kept = z; timed = λ e a j x y. w a j (omega arith) y }
   jobs_filled (suc n) i t ln st h z w =
       let P = Filled resistance m l in
-      let fault = name_fault (until 10 t) in
       let f = block_from Work (i * levels_max) l 0 (beyond 10 t) (ln + 1) st in
-      let y = block_kept (Fits resistance) Work (i * levels_max) l (omega arith) (λ j line a. work_takes resistance (i * levels_max + j) j line (omega arith)) l 0 (beyond 10 t) (ln + 1) st (omega arith) z in
+      let y = block_kept (Fits resistance) Work (i * levels_max) l (omega arith) (λ j line entry a. work_takes resistance (i * levels_max + j) j line entry (omega arith)) l 0 (beyond 10 t) (ln + 1) st (omega arith) z in
       cond_cases P (ahead 10 t) _ _
-      (λ a. after_cases P fault _ _ (stopped _ z)
-      (λ s. after_cases P f.fault f _ (stopped f y)
+      (λ a. after_cases P (name_fault (until 10 t)) _ _ (λ g e. stopped _ z (λ q. none-some g (sym q)))
+      (λ u e. onward_cases P f (jobs_from l n (i + 1)) (stopped f y)
       (λ s'. jobs_filled n (i + 1) f.rest f.line f.store (omega arith) y
       (λ a j x u. elim (dec_lt a i) [
         | yes d ↦ work_stays (i * levels_max) l (omega arith) l 0 (beyond 10 t) (ln + 1) st (omega arith) z.long (a * levels_max + j) (omega arith) (w a j d u)
@@ -69,17 +79,17 @@ module _ (resistance m l : ℕ) (jobs : m ≤ jobs_max) (few : l ≤ levels_max)
             let q : a ≡ i = omega arith in
             rw q (work_timed (i * levels_max) l (omega arith) l 0 (beyond 10 t) (ln + 1) st (omega arith) z.long s' j (omega arith) (omega arith))
       ]))))
-      (λ a. stopped _ z shapeless)
+      (λ a. stopped _ z (λ q. none-some Shape (sym q)))
 
   -- All of them.
   body_filled : (t : List ℕ) (ln : ℕ) (st : List ℕ) → Kept (Fits resistance) st → Filled resistance m l (body_from m l resistance t ln st)
   unfolding body_from
   body_filled t ln st z =
       let f = block_from (Level resistance) 0 l 0 t ln st in
-      let y = block_kept (Fits resistance) (Level resistance) 0 l (omega arith) (λ j line a. level_takes resistance j line (omega arith)) l 0 t ln st (omega arith) z in
-      let w = after_cases (λ (g : Found). Kept (Fits resistance) g.store) f.fault f _ (λ o. y) (λ s. changes_kept l 0 f.rest f.line f.store (omega arith) y) in
+      let y = block_kept (Fits resistance) (Level resistance) 0 l (omega arith) (λ j line entry a. level_takes resistance j line entry (omega arith)) l 0 t ln st (omega arith) z in
+      let w = onward_cases (λ (g : Found). Kept (Fits resistance) g.store) f (changes_from l l 0) (λ o. y) (λ s. changes_kept l 0 f.rest f.line f.store (omega arith) y) in
       let g = onward f (changes_from l l 0) in
-      after_cases (Filled resistance m l) g.fault g _ (stopped g w)
+      onward_cases (Filled resistance m l) g (jobs_from l m 0) (stopped g w)
       (λ s. jobs_filled m 0 g.rest g.line g.store (omega arith) w (λ a j x u. absurd (omega arith)))
 
 -- ---- a frame's figures
@@ -94,31 +104,29 @@ figure_in : (store : List ℕ) (b n k : ℕ) → k < n → figure_at store b n k
 unfolding figure_at
 figure_in store b n k h = rw (lt-ltb k n h) refl
 
-module _ (version : ℕ) (vs st : List ℕ) (h : Held head_los (head_his (get_or vs 1 0 - 1)) 10 0 (replicate 10 0) vs) (cool : get_or vs 6 0 ≤ get_or vs 5 0)
-    (z : Kept (Fits (get_or vs 7 0)) st) (w : (i j : ℕ) → i < get_or vs 0 0 → j < get_or vs 1 0 → Timed st (i * levels_max + j)) where
+module _ (head : Head) (st : List ℕ) (h : InRange head) (cool : head.start_temperature ≤ head.temperature_limit)
+    (z : Kept (Fits head.resistance) st) (w : (i j : ℕ) → i < head.jobs → j < head.levels → Timed st (i * levels_max + j)) where
   -- A time or an energy, of a change or of a job.
   cost_most : (b n k : ℕ) → change_times ≤ b → b + n ≤ decays → figure_at st b n k ≤ 10000000
   cost_most b n k l u = figure_cases (λ (v : ℕ). v ≤ 10000000) st b n k (omega arith) (λ a. (z.each (b + k)).cost (omega arith) (omega arith))
 
   -- The figures of a sound H line and of a store that is kept.
-  as_ranges : Ranges (sheet_of (head_as version vs) st)
+  as_ranges : Ranges (sheet_of head st)
   unfolding sheet_of
   as_ranges =
-      let low : (i : ℕ) → i < 10 → get_or head_los i 0 ≤ get_or vs i 0 = λ i a. h.low i (omega arith) (omega arith) in
-      let high : (i : ℕ) → i < 10 → get_or vs i 0 ≤ get_or (head_his (get_or vs 1 0 - 1)) i 0 = λ i a. h.high i (omega arith) (omega arith) in
       record {
-        jobs = record { low = low 0 (omega arith); high = high 0 (omega arith) };
-        levels = record { low = low 1 (omega arith); high = high 1 (omega arith) };
-        start_level = omega (arith, low 1 (omega arith), high 2 (omega arith));
-        deadline = high 3 (omega arith);
-        energy_budget = high 4 (omega arith);
-        temperature_limit = high 5 (omega arith);
-        start_temperature = high 6 (omega arith);
-        resistance = high 7 (omega arith);
-        energy_step = record { low = low 8 (omega arith); high = high 8 (omega arith) };
-        temperature_step = record { low = low 9 (omega arith); high = high 9 (omega arith) };
+        jobs = record { low = h.jobs.0; high = h.jobs.1 };
+        levels = record { low = h.levels.0; high = h.levels.1 };
+        start_level = omega (arith, h.levels.0, h.start_level);
+        deadline = h.deadline;
+        energy_budget = h.energy_budget;
+        temperature_limit = h.temperature_limit;
+        start_temperature = h.start_temperature;
+        resistance = h.resistance;
+        energy_step = record { low = h.energy_step.0; high = h.energy_step.1 };
+        temperature_step = record { low = h.temperature_step.0; high = h.temperature_step.1 };
         power = λ j. figure_cases (λ (v : ℕ). v ≤ 100000) st powers levels_max j (omega arith) (λ a. (z.each (powers + j)).power (omega arith));
-        steady = λ j. figure_cases (λ (v : ℕ). steady_state v (get_or vs 7 0) ≤ 20000) st powers levels_max j ((fits_zero (get_or vs 7 0) 0).steady (omega arith)) (λ a. (z.each (powers + j)).steady (omega arith));
+        steady = λ j. figure_cases (λ (v : ℕ). steady_state v head.resistance ≤ 20000) st powers levels_max j ((fits_zero head.resistance 0).steady (omega arith)) (λ a. (z.each (powers + j)).steady (omega arith));
         change_time = λ p j. cost_most change_times changes_max (p * levels_max + j) (omega arith) (omega arith);
         change_energy = λ p j. cost_most change_energies changes_max (p * levels_max + j) (omega arith) (omega arith);
         stay = λ p. (
@@ -127,7 +135,7 @@ module _ (version : ℕ) (vs st : List ℕ) (h : Held head_los (head_his (get_or
         );
         job_time = λ i j. cost_most job_times works_max (i * levels_max + j) (omega arith) (omega arith);
         job_time_least = λ i j x y.
-            let a : i * levels_max + j < works_max = omega (arith, high 0 (omega arith), high 1 (omega arith)) in
+            let a : i * levels_max + j < works_max = omega (arith, h.jobs.1, h.levels.1) in
             rw (figure_in st job_times works_max (i * levels_max + j) a) (w i j x y);
         job_energy = λ i j. cost_most job_energies works_max (i * levels_max + j) (omega arith) (omega arith);
         decay = λ i j. figure_cases (λ (v : ℕ). v ≤ 65536) st decays works_max (i * levels_max + j) (omega arith) (λ a. (z.each (decays + (i * levels_max + j))).decay (omega arith));
@@ -137,16 +145,20 @@ module _ (version : ℕ) (vs st : List ℕ) (h : Held head_los (head_his (get_or
 -- ---- a whole sheet
 
 -- The figures of a sheet that is read without refusal keep the ranges of document 01.
-pub read_ranges : (t : List ℕ) → (reading_of t).refusal ≡ Nothing → Ranges (sheet_in t)
+pub read_ranges : (t : List ℕ) → (reading_of t).refusal ≡ None → Ranges (sheet_in t)
 read_ranges t e =
     let w = read_whole t e in
-    let resistance = get_or w.vs 7 0 in
     let h = w.held in
-    let z = kept_zeros (Fits resistance) (fits_zero resistance) store_size refl in
-    let g = body_filled resistance (get_or w.vs 0 0) (get_or w.vs 1 0) (h.high 0 (omega arith) (omega arith)) (h.high 1 (omega arith) (omega arith)) (beyond 10 (beyond 10 t)) body_line (replicate store_size 0) z in
-    rw w.same (as_ranges w.version w.vs _ h w.cool g.kept (g.timed w.sound))
+    let z = kept_zeros (Fits w.head.resistance) (fits_zero w.head.resistance) store_size refl in
+    let g = body_filled w.head.resistance w.head.jobs w.head.levels h.jobs.1 h.levels.1 (beyond 10 (beyond 10 t)) body_line (replicate store_size 0) z in
+    rw w.same (as_ranges w.head _ h w.cool g.kept (g.timed w.sound))
 
 -- The same of what the reader hands back and leaves in the store.
-pub reading_ranges : (t : List ℕ) (r : Reading) (st : List ℕ) → read_in r st ≡ reading_of t → r.refusal ≡ Nothing → Ranges (sheet_of r.head st)
-reading_ranges t r st e m =
-    subst (λ (x : SheetRead). Ranges (sheet_of x.head x.store)) (sym e) (read_ranges t (ap (λ (x : SheetRead). x.refusal) (sym e) ∙ m))
+pub reading_ranges : (t : List ℕ) (r : Result Head Refusal) (st : List ℕ) → read_in r st ≡ reading_of t → (h : Head) → r ≡ Ok h → Ranges (sheet_of h st)
+reading_ranges t r st e h m =
+    let q = read_on _ _ e m in
+    subst (λ (x : SheetRead). Ranges (sheet_of x.head x.store)) (sym q) (read_ranges t (ap (λ (x : SheetRead). x.refusal) (sym q)))
+
+pub ranges_read : (t : List ℕ) (r : Result Head Refusal) (st : List ℕ) → read_in r st ≡ reading_of t → IfOk r (λ h. Ranges (sheet_of h st))
+ranges_read t (Ok h) st e = reading_ranges t (Ok h) st e h refl
+ranges_read t (Err f) st e = tt

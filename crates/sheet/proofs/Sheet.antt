@@ -1,101 +1,94 @@
 -- Laws of a whole sheet: what each test of the reader says of it.
 -- Assumes nothing.
-use mathlib.Core.Path.{◌≡◌, refl, ap, sym, ◌∙◌}
+use mathlib.Core.Path.{◌≡◌, refl}
 use mathlib.Core.List.{List}
 use Prim.Native.Nat.{ℕ, ◌+◌, ◌≤◌, ◌<◌}
 use native.Mathlib.Omega.{arith}
-use lib.ListN.{length, get_or, drop}
+use lib.ListN.{length, drop, length-drop}
+use lib.Seq.{drop-drop}
 use borrow.Author.Tests.{lt-ltb, le-ltb, eq-eqb, ne_eqb}
-use Rattle.text.specs.Text.{until, part}
-use Rattle.text.specs.Line.{LineAt}
-use Rattle.text.specs.declared.Line.{Line as Scan}
-use Rattle.text.proofs.Scanned.{line_part, line_ahead, line_missing, line_beyond}
-use Rattle.fields.specs.Fields.{Fields}
-use Rattle.fields.specs.declared.Fault.TheVariants.{Sound}
+use Rattle.std.specs.Prelude.{None, Some, Ok, Err}
+use Rattle.text.specs.Text.{next_line}
+use Rattle.text.proofs.Text.{line_some, line_none}
+use Rattle.fields.specs.declared.Fault.{Fault}
 use Rattle.lines.specs.Lines.{Found}
-use Rattle.fields.proofs.After.{Other, after_other}
 use Rattle.refusal.specs.declared.Refusal.{Refusal}
-use Rattle.refusal.specs.declared.Refusal.TheVariants.{Nothing, TooLong, Line, Hot, Trailing}
+use Rattle.refusal.specs.declared.Refusal.TheVariants.{TooLong, Line, Hot, Trailing}
 use Rattle.refusal.specs.Code.{refusal_of}
 use Rattle.body.specs.Body.{body_line, body_from}
 use Rattle.store.specs.declared.Head.{Head}
-use Rattle.head.specs.Head.{head_as, version_fields, head_fields}
-use Rattle.sheet.specs.declared.Reading.{Reading}
-use Rattle.sheet.specs.Reading.{read_in, clear, refused_reading, refused_read, figures_from, head_from, reading_of}
+use Rattle.head.specs.Head.{version_fields, head_fields}
+use Rattle.sheet.specs.Reading.{read_in, clear, refused_read, figures_from, head_from, reading_of}
 
 -- ---- a refused sheet
 
-pub refused_clear : (r : Reading) (st : List ℕ) (f : Refusal) → r ≡ refused_reading f → st ≡ clear → read_in r st ≡ refused_read f
-refused_clear r st f e z = rw (e, z) refl
+pub refused_clear : (st : List ℕ) (f : Refusal) → st ≡ clear → read_in (Err f) st ≡ refused_read f
+refused_clear st f z = rw z refl
 
 -- ---- from line 3 on
 
 -- The lines are read to a store that was clear.
-module _ (version : ℕ) (vs t : List ℕ) {store : List ℕ} (z : store ≡ clear) (f : Found) (e : f ≡ body_from (get_or vs 0 0) (get_or vs 1 0) (get_or vs 7 0) t body_line store) where
-  to_clear : f ≡ body_from (get_or vs 0 0) (get_or vs 1 0) (get_or vs 7 0) t body_line clear
+module _ (head : Head) (t : List ℕ) {store : List ℕ} (z : store ≡ clear) (f : Found) (e : f ≡ body_from head.jobs head.levels head.resistance t body_line store) where
+  to_clear : f ≡ body_from head.jobs head.levels head.resistance t body_line clear
   to_clear = rw z at e
 
-  pub figures_fault : Other f.fault → refused_read (refusal_of f.fault f.line) ≡ figures_from version vs t
+  pub figures_fault : (fault : Fault) → f.fault ≡ Some fault → refused_read (refusal_of fault f.line) ≡ figures_from head t
   unfolding figures_from
-  figures_fault o = rw (← to_clear) (sym (after_other f.fault (refused_read (refusal_of f.fault f.line)) _ o))
+  figures_fault fault o = rw (← to_clear, o) refl
 
-  pub figures_trailing : f.fault ≡ Sound → (length f.rest ≡ 0 → ⊥) → refused_read (Trailing f.line) ≡ figures_from version vs t
+  pub figures_trailing : f.fault ≡ None → (length f.rest ≡ 0 → ⊥) → refused_read (Trailing f.line) ≡ figures_from head t
   unfolding figures_from
   figures_trailing q n = rw (← to_clear, q, ne_eqb (length f.rest) 0 n) refl
 
-  pub figures_read : f.fault ≡ Sound → length f.rest ≡ 0 → (h : Head) → h ≡ head_as version vs →
-      record { refusal = Nothing; head = h; store = f.store } ≡ figures_from version vs t
+  pub figures_read : f.fault ≡ None → length f.rest ≡ 0 → read_in (Ok head) f.store ≡ figures_from head t
   unfolding figures_from
-  figures_read q n h k = rw (← to_clear, q, eq-eqb (length f.rest) 0 n, k) refl
+  figures_read q n = rw (← to_clear, q, eq-eqb (length f.rest) 0 n) refl
 
 -- ---- from line 2 on, and from line 1 on
 
-module _ (version : ℕ) (s : List ℕ) (at : ℕ) (r : Scan) (z : LineAt s at r) where
-  pub from_head_missing : r.end ≡ length s → at ≤ length s → refused_read (Line 2) ≡ head_from version (drop at s)
+module _ (version : ℕ) (s : List ℕ) (at : ℕ) where
+  pub from_head_missing : None ≡ next_line (drop at s) → refused_read (Line 2) ≡ head_from version (drop at s)
   unfolding head_from
-  from_head_missing e k = rw (line_missing z (omega arith) k) refl
+  from_head_missing e = rw (line_none (drop at s) e) refl
 
-  module _ (n : r.end ≡ length s → ⊥) (fields : Fields) (e : fields ≡ head_fields (part at r.end s)) where
-    head_inside : r.end < length s
-    head_inside = omega (arith, z.within, n)
+  module _ (bytes : List ℕ) (e : Some bytes ≡ next_line (drop at s)) where
+    -- The line behind it.
+    pub head_next : at + length bytes + 1 ≤ length s
+    head_next = let l = line_some (drop at s) bytes e in omega (arith, l.long, length-drop at s)
 
-    head_same : head_fields (until 10 (drop at s)) ≡ fields
-    head_same = ap head_fields (sym (line_part z)) ∙ sym e
-
-    pub from_head_fault : Other fields.fault → refused_read (refusal_of fields.fault 2) ≡ head_from version (drop at s)
+    pub from_head_fault : (fault : Fault) → Err fault ≡ head_fields version bytes → refused_read (refusal_of fault 2) ≡ head_from version (drop at s)
     unfolding head_from
-    from_head_fault o = rw (line_ahead z head_inside, head_same) (sym (after_other fields.fault _ _ o))
+    from_head_fault fault q = let l = line_some (drop at s) bytes e in rw (l.ends, ← l.is, ← q) refl
 
-    pub from_head_hot : fields.fault ≡ Sound → get_or fields.values 5 0 < get_or fields.values 6 0 → refused_read Hot ≡ head_from version (drop at s)
-    unfolding head_from
-    from_head_hot f h = rw (line_ahead z head_inside, head_same, f, lt-ltb (get_or fields.values 5 0) (get_or fields.values 6 0) h) refl
+    module _ (head : Head) (q : Ok head ≡ head_fields version bytes) where
+      pub from_head_hot : head.temperature_limit < head.start_temperature → refused_read Hot ≡ head_from version (drop at s)
+      unfolding head_from
+      from_head_hot h = let l = line_some (drop at s) bytes e in rw (l.ends, ← l.is, ← q, lt-ltb head.temperature_limit head.start_temperature h) refl
 
-    pub from_head_on : fields.fault ≡ Sound → get_or fields.values 6 0 ≤ get_or fields.values 5 0 →
-        figures_from version fields.values (drop (r.end + 1) s) ≡ head_from version (drop at s)
-    unfolding head_from
-    from_head_on f h =
-        rw (line_ahead z head_inside, head_same, f, le-ltb (get_or fields.values 5 0) (get_or fields.values 6 0) h, line_beyond z) refl
+      pub from_head_on : head.start_temperature ≤ head.temperature_limit → figures_from head (drop (at + length bytes + 1) s) ≡ head_from version (drop at s)
+      unfolding head_from
+      from_head_on h =
+          let l = line_some (drop at s) bytes e in
+          let z : at + length bytes + 1 ≡ at + (length bytes + 1) = omega arith in
+          rw (l.ends, ← l.is, ← q, le-ltb head.temperature_limit head.start_temperature h, l.next, drop-drop (length bytes + 1) at s, z) refl
 
 pub sheet_long : (s : List ℕ) → 20480 < length s → refused_read TooLong ≡ reading_of s
 unfolding reading_of
 sheet_long s h = rw (lt-ltb 20480 (length s) h) refl
 
-module _ (s : List ℕ) (short : length s ≤ 20480) (r : Scan) (z : LineAt s 0 r) where
-  pub sheet_missing : r.end ≡ length s → refused_read (Line 1) ≡ reading_of s
+module _ (s : List ℕ) (short : length s ≤ 20480) where
+  pub sheet_missing : None ≡ next_line s → refused_read (Line 1) ≡ reading_of s
   unfolding reading_of
-  sheet_missing e = rw (le-ltb 20480 (length s) short, line_missing z (omega arith) (omega arith)) refl
+  sheet_missing e = rw (le-ltb 20480 (length s) short, line_none s e) refl
 
-  module _ (n : r.end ≡ length s → ⊥) (fields : Fields) (e : fields ≡ version_fields (part 0 r.end s)) where
-    version_inside : r.end < length s
-    version_inside = omega (arith, z.within, n)
+  module _ (bytes : List ℕ) (e : Some bytes ≡ next_line s) where
+    pub version_next : length bytes + 1 ≤ length s
+    version_next = let l = line_some s bytes e in omega (arith, l.long)
 
-    version_same : version_fields (until 10 s) ≡ fields
-    version_same = ap version_fields (sym (line_part z)) ∙ sym e
-
-    pub sheet_fault : Other fields.fault → refused_read (refusal_of fields.fault 1) ≡ reading_of s
+    pub sheet_fault : (fault : Fault) → Err fault ≡ version_fields bytes → refused_read (refusal_of fault 1) ≡ reading_of s
     unfolding reading_of
-    sheet_fault o = rw (le-ltb 20480 (length s) short, line_ahead z version_inside, version_same) (sym (after_other fields.fault _ _ o))
+    sheet_fault fault q = let l = line_some s bytes e in rw (le-ltb 20480 (length s) short, l.ends, ← l.is, ← q) refl
 
-    pub sheet_on : fields.fault ≡ Sound → head_from (get_or fields.values 0 0) (drop (r.end + 1) s) ≡ reading_of s
+    pub sheet_on : (version : ℕ) → Ok version ≡ version_fields bytes → head_from version (drop (length bytes + 1) s) ≡ reading_of s
     unfolding reading_of
-    sheet_on f = rw (le-ltb 20480 (length s) short, line_ahead z version_inside, version_same, f, line_beyond z) refl
+    sheet_on version q = let l = line_some s bytes e in rw (le-ltb 20480 (length s) short, l.ends, ← l.is, ← q, l.next) refl

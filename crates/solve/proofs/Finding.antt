@@ -26,8 +26,8 @@ use Rattle.lookup.specs.Lookup.{Looks, rest_in}
 use Rattle.lookup.proofs.Lookup.{rest_is, rest_least, looks}
 use Rattle.table.proofs.Cells.{filled_words}
 use Rattle.walk.specs.Walk.{Starts}
-use Rattle.reply.specs.declared.Reply.{Reply}
-use Rattle.reply.specs.Answer.{found, planned_as, refused_reply, table_after, part_after, Answers}
+use Rattle.reply.specs.Reply.{Reply, planned_as, refused_reply}
+use Rattle.reply.specs.Answer.{found, table_after, part_after, Answers}
 use Rattle.solve.specs.Solve.{is_plan, Finds}
 
 -- ---- the start's word

@@ -4,31 +4,26 @@ ghost use Rattle.std.specs.Prelude.{◌≡◌, ◌-◌, length};
 ghost use Rattle.frame.specs.Sheet.{Sheet};
 ghost use Rattle.store.specs.Figures.{sheet_of};
 ghost use Rattle.run.specs.Run.{state_of};
-ghost use Rattle.table.specs.Table.{Axes, Framed};
+ghost use Rattle.table.specs.Table.{Axes};
+ghost use Rattle.table.specs.Problem.{sheet_for};
 ghost use Rattle.reply.specs.Answer.{found_from, Answers};
+ghost use Rattle.reply.specs.Reply.{reply_by};
 ghost use Rattle.solve.specs.Solve.{Ready, Finds};
 
-use reply::Reply;
+use refusal::Refusal;
+use reply::Totals;
 use run::Run;
-use store::{LEVELS_MAX, STORE_SIZE};
-use table::Frame;
+use step::Figures;
+use store::STORE_SIZE;
+use table::{Frame, Problem};
 
 // Fills the table and, where there is a plan for the jobs left from `start` on, writes its levels: whether there is one.
-fn find_plan(
-    f: Frame,
-    store: &[u32; STORE_SIZE],
-    steady: &[u32; LEVELS_MAX],
-    start: Run,
-    table: &mut [u32],
-    part: &mut [u8],
-) -> bool
-    requires { let s = sheet_of f.head store.now in record {
-      framed : Framed s f store.now steady.now;
-      ready : Ready s (state_of start) (length table.old) (length part.old);
-    } }
-    ensures { let s = sheet_of f.head store.now in Finds s (s.jobs - start.done) (state_of start) table.old table.new part.old part.new result }
+fn find_plan(problem: &Problem, start: Run, table: &mut [u32], part: &mut [u8]) -> bool
+    requires { Ready (sheet_for problem.now) (state_of start) (length table.old) (length part.old) }
+    ensures { let s = sheet_for problem.now in Finds s (s.jobs - start.done) (state_of start) table.old table.new part.old part.new result }
 {
-    fill::fill(f, store, steady, table);
+    let f = problem.frame;
+    fill::fill(problem, table);
     if (f.head.energy_budget as u64) < start.energy {
         return false;
     }
@@ -36,7 +31,7 @@ fn find_plan(
     if (f.head.deadline as u64) < start.time + least {
         return false;
     }
-    walk::walk(f, store, steady, table, start, part);
+    walk::walk(problem, table, start, part);
     true
 }
 
@@ -47,16 +42,16 @@ pub fn solve(
     start: Run,
     table: &mut [u32],
     part: &mut [u8],
-) -> Reply
+) -> Result<Totals, Refusal>
     requires { let s = sheet_of f.head store.now in record { axes : Axes s f; ready : Ready s (state_of start) (length table.old) (length part.old) } }
-    ensures { let s = sheet_of f.head store.now in Answers (found_from s (state_of start)) table.old table.new part.old part.new result }
+    ensures { let s = sheet_of f.head store.now in Answers (found_from s (state_of start)) table.old table.new part.old part.new (reply_by result) }
 {
-    let states = step::steady_states(store, f.head.resistance);
-    let steady = states.levels;
-    if find_plan(f, store, &steady, start, table, part) {
-        let left = f.head.jobs - start.done;
-        let run = step::run_levels(start, store, &steady, part, left as usize);
-        return reply::planned(run);
+    let figures = Figures::of(store, f.head.resistance);
+    let problem = Problem { frame: f, figures };
+    if !find_plan(&problem, start, table, part) {
+        return Err(Refusal::NoPlan);
     }
-    reply::refuse(10, 0, 0)
+    let left = f.head.jobs - start.done;
+    let run = figures.run_levels(start, &part[..left as usize]);
+    Ok(Totals::from(run))
 }

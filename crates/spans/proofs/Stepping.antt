@@ -1,4 +1,4 @@
--- A loop that sets a run of words one by one: none, one more, all; a run behind another; a run by another name.
+-- A loop that sets a run of words one by one: none, one more, all; a run behind another; a run in a part of the words.
 -- Assumes nothing.
 use mathlib.Core.Path.{◌≡◌, refl, ap, ◌∙◌}
 use mathlib.Core.Logic.{◌⊎◌, inl, inr, ⊎_elim}
@@ -8,6 +8,8 @@ use native.Mathlib.Nat.{eq-or-lt_of_le, le_antisymm}
 use native.Mathlib.Decide.{dec_lt}
 use native.Mathlib.Omega.{arith}
 use lib.ListN.{length, get_or, set, length-set}
+use borrow.Rule.Slice.PartMut.{put_mid}
+use Rattle.std.proofs.lemmas.Grind.{common_steps}
 use lib.Seq.{get_or-set_same, get_or-set_other}
 use Rattle.spans.specs.Spans.{Spans}
 
@@ -28,7 +30,7 @@ module _ {old new : List ℕ} {at k : ℕ} {f : ℕ → ℕ} (w : Spans old new 
   pub spans_behind : (q : ℕ) → at + k ≤ q → get_or new q 0 ≡ get_or old q 0
   spans_behind q h = w.outside q (inr h)
 
-  pub spans_room : {n : ℕ} → k < n → at + n ≤ length old → at + k < length new
+  spans_room : {n : ℕ} → k < n → at + n ≤ length old → at + k < length new
   spans_room h room = omega (arith, w.long)
 
   pub spans_more : {n : ℕ} → k < n → at + n ≤ length old → (v : ℕ) → v ≡ f k → Spans old (set new (at + k) v) at (k + 1) f
@@ -60,6 +62,6 @@ spans_on {new = new} {at} {m} {f = f} v w e =
       outside = λ q h. ⊎_elim (λ l. w.outside q (inl (omega arith)) ∙ v.outside q (inl l)) (λ l. w.outside q (inr (omega arith)) ∙ v.outside q (inr (omega arith))) h;
     }
 
--- A run that holds the same by another name.
-pub spans_as : {old new : List ℕ} {at n : ℕ} {f g : ℕ → ℕ} → Spans old new at n f → ((k : ℕ) → k < n → f k ≡ g k) → Spans old new at n g
-spans_as w e = record { long = w.long; inside = λ k h. w.inside k h ∙ e k h; outside = w.outside }
+-- A run that is set in a part of the words alone.
+pub spans_within : (old ys : List ℕ) (at n e : ℕ) {f : ℕ → ℕ} → at + n ≤ length old → e ≡ n → length ys ≡ n → ((k : ℕ) → k < n → get_or ys k 0 ≡ f k) → Spans old (put_mid at e old ys) at n f
+spans_within old ys at n e room k l w = record { long = grind (arith, common_steps); inside = λ q h. grind (arith, common_steps, w q h); outside = λ q h. grind (arith, common_steps) }

@@ -5,12 +5,10 @@ use mathlib.Core.Path.{◌≡◌, refl, ap, ◌∙◌}
 use mathlib.Core.List.{List}
 use Prim.Native.Nat.{ℕ, ◌+◌, ◌*◌, ◌≤◌, ◌<◌, ◌^◌}
 use native.Mathlib.Omega.{arith}
-use native.Mathlib.Decide.{dec_lt}
-use lib.ListN.{length, get_or, set, replicate, length-set}
-use lib.Seq.{get_or-set_same, get_or-set_other}
+use lib.ListN.{length, get_or}
 use borrow.Author.Tests.{lt-ltb}
 use Rattle.thermal.specs.Thermal.{steady_state, raised_temperature_max}
-use Rattle.frame.specs.Sheet.{Sheet, Ranges, steady_of}
+use Rattle.frame.specs.Sheet.{Sheet, Ranges, steady_of, temperature_max}
 use Rattle.frame.proofs.Tabulate.{get_d_tabulate, tabulated}
 use Rattle.store.specs.declared.Head.{Head}
 use Rattle.store.specs.Store.{jobs_max, levels_max, changes_max, works_max, powers, change_times, change_energies, job_times, job_energies, decays}
@@ -48,28 +46,19 @@ read_stored h st =
           ∙ steady_in h st j hj;
     }
 
+pub figures_stored : {st levels : List ℕ} {resistance : ℕ} → levels ≡ steadies st resistance → (h : Head) → h.resistance ≡ resistance → Stored (sheet_of h st) st levels
+figures_stored {st} e h q = rw (e, ← q) (read_stored h st)
+
+-- A sheet in its ranges has no steady-state temperature that is too high.
+pub steady_small : (h : Head) (st : List ℕ) → Ranges (sheet_of h st) → (j : ℕ) → j < levels_max → steady_state (get_or st (powers + j) 0) h.resistance ≤ temperature_max
+steady_small h st r j l = rw (steady_in h st j l) (r.steady j)
+
 -- ---- the steady-state temperatures of the first n levels worked out
 
 pub record Worked (store : List ℕ) (resistance : ℕ) (levels : List ℕ) (n : ℕ) : Type 0 where
   pub most : n ≤ levels_max
   pub long : length levels ≡ levels_max
   pub within : (j : ℕ) → j < n → get_or levels j 0 ≡ steady_state (get_or store (powers + j) 0) resistance
-
-pub worked_none : (store : List ℕ) (resistance : ℕ) → Worked store resistance (replicate levels_max 0) 0
-worked_none store resistance = record { most = omega arith; long = refl; within = λ j h. absurd (omega arith) }
-
-pub worked_more : {store : List ℕ} {resistance : ℕ} {levels : List ℕ} {n : ℕ} (v : ℕ) → n < levels_max →
-    v ≡ steady_state (get_or store (powers + n) 0) resistance → Worked store resistance levels n → Worked store resistance (set levels n v) (n + 1)
-worked_more {levels = levels} {n = n} v l e w =
-    record {
-      most = omega arith;
-      long = length-set levels n v ∙ w.long;
-      within = λ j h.
-          elim (dec_lt j n) [
-            | yes k ↦ get_or-set_other levels n j v 0 (λ q. absurd (omega arith)) ∙ w.within j k
-            | no k ↦ let q : j ≡ n = omega arith in rw q (get_or-set_same levels n v 0 (omega (arith, w.long)) ∙ e)
-          ];
-    }
 
 pub worked_all : {store : List ℕ} {resistance : ℕ} {levels : List ℕ} {n : ℕ} → levels_max ≤ n → Worked store resistance levels n →
     levels ≡ steadies store resistance
@@ -78,36 +67,35 @@ worked_all {levels = levels} l w = tabulated _ levels_max levels w.long (λ i h.
 
 -- ---- a step
 
-module _ {s : Sheet} {store steady : List ℕ} (h : Stored s store steady) where
-  pub figures_of : (a : Run) (j : ℕ) (c : Change) (b : Job) → a.done < jobs_max → a.level < levels_max → j < levels_max →
-      c ≡ change_in store a.level j → b ≡ job_in store steady a.done j → FiguresOf s a j c b
-  figures_of a j c b hi hp hj p q =
-      rw (p, q)
-      (record {
-        change_time = h.change_time a.level j hp hj;
-        change_energy = h.change_energy a.level j hp hj;
-        job_time = h.job_time a.done j hi hj;
-        job_energy = h.job_energy a.done j hi hj;
-        steady = h.steady j hj;
-        decay = h.decay a.done j hi hj;
-      })
-
-  pub rests : (a : Run) (j : ℕ) → Ranges s → a.done < jobs_max → a.level < levels_max → j < levels_max → a.time < 2 ^ 63 → a.energy < 2 ^ 63 →
-      a.temperature ≤ raised_temperature_max → Rests a store steady j
-  rests a j r hi hp hj ht he hw =
-      record {
-        done = hi;
-        level = hp;
-        next = hj;
-        time = ht;
-        energy = he;
-        rule =
-            record {
-              temperature_most = hw;
-              steady_most = rw (h.steady j hj) (r.steady j);
-              decay_most = rw (h.decay a.done j hi hj) (r.decay a.done j);
-            };
-      }
+pub figures_of : {s : Sheet} {store steady : List ℕ} → Stored s store steady → (a : Run) (j : ℕ) (c : Change) (b : Job) → a.done < jobs_max → a.level < levels_max → j < levels_max →
+    c ≡ change_in store a.level j → b ≡ job_in store steady a.done j → FiguresOf s a j c b
+figures_of h a j c b hi hp hj p q =
+    rw (p, q)
+    (record {
+      change_time = h.change_time a.level j hp hj;
+      change_energy = h.change_energy a.level j hp hj;
+      job_time = h.job_time a.done j hi hj;
+      job_energy = h.job_energy a.done j hi hj;
+      steady = h.steady j hj;
+      decay = h.decay a.done j hi hj;
+    })
 
 pub bounds : {a : Run} {store steady : List ℕ} {j : ℕ} (b : Job) → Rests a store steady j → b ≡ job_in store steady a.done j → Bounds a b
 bounds b r q = rw q (omega (arith, r))
+
+pub rests : {s : Sheet} {store steady : List ℕ} → Stored s store steady → (a : Run) (j : ℕ) → Ranges s → a.done < jobs_max → a.level < levels_max → j < levels_max → a.time < 2 ^ 63 →
+    a.energy < 2 ^ 63 → a.temperature ≤ raised_temperature_max → Rests a store steady j
+rests h a j r hi hp hj ht he hw =
+    record {
+      done = hi;
+      level = hp;
+      next = hj;
+      time = ht;
+      energy = he;
+      rule =
+          record {
+            temperature_most = hw;
+            steady_most = rw (h.steady j hj) (r.steady j);
+            decay_most = rw (h.decay a.done j hi hj) (r.decay a.done j);
+          };
+    }

@@ -4,6 +4,9 @@ ghost use Rattle.std.specs.Prelude.{◌≡◌, ◌≤◌};
 ghost use Rattle.thermal.specs.Rounding.{ceil_div};
 ghost use Rattle.frame.specs.Sheet.{limit_max};
 
+mod problem;
+
+pub use problem::Problem;
 use store::Head;
 
 // "need above 4,194,304 words" is refused.

@@ -1,18 +1,23 @@
 -- Laws of lines and fields: by the first byte of a text, and by places of a longer one.
 -- Assumes nothing.
-use mathlib.Core.Path.{◌≡◌, refl, ap, ◌∙◌}
-use mathlib.Core.Bool.{true, false}
+use mathlib.Core.Path.{◌≡◌, refl, ap, sym, ◌∙◌}
+use mathlib.Core.Bool.{Bool, true, false, cond}
 use mathlib.Core.List.{List, [], ◌∷◌}
 use Prim.Native.Nat.{ℕ, zero, suc, ◌+◌, ◌-◌, ◌≤◌, ◌<◌}
 use native.Mathlib.Nat.{sub-zero, zero-sub, suc-sub-suc}
 use native.Mathlib.Decide.{ℕ_discrete}
 use native.Mathlib.Numerals.{add-one}
 use native.Mathlib.Omega.{arith}
+use lib.Dec.{eqb}
 use lib.ListN.{length, get_or, take, drop, length-take, length-drop}
 use lib.Seq.{drop-cons, take-nil, take_all, drop-drop, get_or-take, get_or-drop}
-use borrow.Author.Tests.{lt-ltb, ltb-true, le-leb, lt-leb, eq-eqb, ne_eqb}
-use Rattle.text.specs.Line.{LineAt}
-use Rattle.text.specs.Text.{before, until, beyond, ahead, count, part, all}
+use borrow.Author.Tests.{lt-ltb, le-ltb, ltb-true, ltb-false, le-leb, lt-leb, eq-eqb, ne_eqb}
+use Rattle.std.specs.Prelude.{Option, Some, None, position}
+use Rattle.std.specs.List.{position_or_len}
+use Rattle.std.specs.Option.{unwrap_or}
+use Rattle.std.proofs.lemmas.List.Recursion.{is_position_or_len}
+use Rattle.std.proofs.lemmas.Option.{cond_some, none-some}
+use Rattle.text.specs.Text.{before, until, beyond, ahead, next_line, count, part, all}
 
 -- ---- by the first byte
 
@@ -161,52 +166,143 @@ pub until_byte : (b p : ℕ) (s : List ℕ) (i : ℕ) → i < before b (drop p s
 unfolding until
 until_byte b p s i h = get_or-take (before b (drop p s)) (drop p s) i 0 h ∙ get_or-drop p s i 0
 
+-- ---- looking for a byte
+
+-- No byte b stands in the text t before its end part `rest`.
+pub record Passed (b : ℕ) (t rest : List ℕ) : Type 0 where
+  pub shorter : length rest ≤ length t
+  pub same : before b t ≡ length t - length rest + before b rest
+
+before_position : (b : ℕ) (t : List ℕ) → before b t ≡ position_or_len (λ c. eqb c b) t
+unfolding before
+before_position b t = is_position_or_len (before b) (λ c. eqb c b) refl (λ c u. let q : 1 + before b u ≡ suc (before b u) = omega arith in rw q refl) t
+
+-- A test that is not passed where nothing is found.
+pub none_test : {A : Type 0} (b : Bool) (x : A) → None ≡ cond b (Some x) None → b ≡ false
+none_test true x e = absurd (none-some x e)
+none_test false x e = refl
+
+pub place_some : (b : ℕ) (t : List ℕ) (k : ℕ) → position (λ c. eqb c b) t ≡ Some k → (k < length t) × (before b t ≡ k)
+place_some b t k e =
+    let h = cond_some _ _ _ e in
+    (omega (arith, ltb-true _ _ h.0, h.1), before_position b t ∙ h.1)
+
+pub place_none : (b : ℕ) (t : List ℕ) → position (λ c. eqb c b) t ≡ None → before b t ≡ length t
+place_none b t e =
+    let h = ltb-false _ _ (none_test _ _ (sym e)) in
+    omega (arith, h, before_position b t, before_le b t)
+
+-- The first n bytes.
+pub before_take : (b n : ℕ) (t : List ℕ) → before b (take n t) < length (take n t) → before b t ≡ before b (take n t)
+unfolding before
+before_take b zero t h = absurd (omega arith)
+before_take b (suc n) [] h = refl
+before_take b (suc n) (c ∷ t) h =
+    elim (ℕ_discrete c b) [
+      | yes e ↦ rw (eq-eqb c b e) refl
+      | no m ↦ rw (ne_eqb c b m) (ap suc (before_take b n t (omega (arith, rw (ne_eqb c b m) at h))))
+    ]
+
+pub before_drop : (b n : ℕ) (t : List ℕ) → before b (take n t) ≡ length (take n t) → before b t ≡ length (take n t) + before b (drop n t)
+unfolding before
+before_drop b zero t h = omega arith
+before_drop b (suc n) [] h = omega arith
+before_drop b (suc n) (c ∷ t) h =
+    elim (ℕ_discrete c b) [
+      | yes e ↦ absurd (omega (arith, rw (eq-eqb c b e) at h))
+      | no m ↦ rw (ne_eqb c b m) (omega (arith, before_drop b n t (omega (arith, rw (ne_eqb c b m) at h))))
+    ]
+
+module _ {b : ℕ} {t rest : List ℕ} (z : Passed b t rest) where
+  pub passed_here : (k : ℕ) → position (λ c. eqb c b) (take 8 rest) ≡ Some k → length t - length rest + k ≡ before b t
+  passed_here k e =
+      let h = place_some b (take 8 rest) k e in
+      omega (arith, z.same, before_take b 8 rest (omega (arith, h.0, h.1)), h.1)
+
+  pub passed_on : position (λ c. eqb c b) (take 8 rest) ≡ None → 8 ≤ length rest → Passed b t (drop 8 rest)
+  passed_on e h =
+      let n = place_none b (take 8 rest) e in
+      let l = length-take 8 rest in
+      let m = length-drop 8 rest in
+      record { shorter = omega (arith, z.shorter); same = omega (arith, z.shorter, z.same, before_drop b 8 rest n) }
+
+  pub passed_all : (r : Option ℕ) → r ≡ position (λ c. eqb c b) rest → length t - length rest + unwrap_or r (length rest) ≡ before b t
+  passed_all None e = omega (arith, z.same, place_none b rest (sym e))
+  passed_all (Some k) e = omega (arith, z.same, (place_some b rest k (sym e)).1)
+
 -- ---- scanning a line
 
--- From place `from` on no byte 10 stands before place i, and `tabs` bytes 9 do.
-pub record Scanned (s : List ℕ) (from i tabs : ℕ) : Type 0 where
-  pub start : from ≤ i
-  pub within : i ≤ length s
+-- The first i bytes of the text t have no byte 10, and `tabs` bytes 9.
+pub record Scanned (t : List ℕ) (i tabs : ℕ) : Type 0 where
+  pub within : i ≤ length t
   pub few : tabs ≤ i
-  pub end : from + before 10 (drop from s) ≡ i + before 10 (drop i s)
-  pub seen : count 9 (until 10 (drop from s)) ≡ tabs + count 9 (until 10 (drop i s))
+  pub end : before 10 t ≡ i + before 10 (drop i t)
+  pub seen : count 9 (take i t) ≡ tabs
 
-pub scanned_none : (s : List ℕ) (from : ℕ) → from ≤ length s → Scanned s from from 0
-scanned_none s from h = omega arith
+pub scanned_none : (t : List ℕ) → Scanned t 0 0
+unfolding count
+scanned_none t = record { within = omega arith; few = omega arith; end = omega arith; seen = refl }
 
-module _ (s : List ℕ) (from i tabs : ℕ) (z : Scanned s from i tabs) (h : i < length s) where
-  pub scanned_byte : (k : ℕ) → k ≡ tabs → (get_or s i 0 ≡ 10 → ⊥) → (get_or s i 0 ≡ 9 → ⊥) → Scanned s from (i + 1) k
-  scanned_byte k q n m =
-      let d = drop_here s i h in
-      let e = ap (before 10) d ∙ before_pass 10 (get_or s i 0) (drop (i + 1) s) n in
-      let u = ap (until 10) d ∙ until_pass 10 (get_or s i 0) (drop (i + 1) s) n in
-      let v = ap (count 9) u ∙ count_pass 9 (get_or s i 0) (until 10 (drop (i + 1) s)) m in
-      omega arith
+count_more : (b i : ℕ) (t : List ℕ) → i < length t → count b (take (suc i) t) ≡ count b (take i t) + cond (eqb (get_or t i 0) b) 1 0
+unfolding count
+count_more b i [] h = absurd (omega arith)
+count_more b zero (c ∷ t) h =
+    elim (ℕ_discrete c b) [
+      | yes e ↦ rw (eq-eqb c b e) refl
+      | no m ↦ rw (ne_eqb c b m) refl
+    ]
+count_more b (suc i) (c ∷ t) h =
+    elim (ℕ_discrete c b) [
+      | yes e ↦ rw (eq-eqb c b e) (omega (arith, count_more b i t (omega arith)))
+      | no m ↦ rw (ne_eqb c b m) (count_more b i t (omega arith))
+    ]
 
-  pub scanned_tab : (k : ℕ) → k ≡ tabs + 1 → get_or s i 0 ≡ 9 → Scanned s from (i + 1) k
-  scanned_tab k q m =
-      let n : get_or s i 0 ≡ 10 → ⊥ = λ w. omega arith in
-      let d = drop_here s i h in
-      let e = ap (before 10) d ∙ before_pass 10 (get_or s i 0) (drop (i + 1) s) n in
-      let u = ap (until 10) d ∙ until_pass 10 (get_or s i 0) (drop (i + 1) s) n in
-      let v = ap (count 9) u ∙ count_hit 9 (get_or s i 0) (until 10 (drop (i + 1) s)) m in
-      omega arith
+module _ {t : List ℕ} {i tabs : ℕ} (z : Scanned t i tabs) where
+  module _ (h : i < length t) where
+    scanned_on : (k : ℕ) → (get_or t i 0 ≡ 10 → ⊥) → k ≤ i + 1 → k ≡ tabs + cond (eqb (get_or t i 0) 9) 1 0 → Scanned t (i + 1) k
+    scanned_on k n l e =
+        let d = ap (before 10) (drop_here t i h) ∙ before_pass 10 (get_or t i 0) (drop (i + 1) t) n in
+        record { within = omega arith; few = l; end = omega (arith, z.end, d); seen = let q : i + 1 ≡ suc i = omega arith in rw q (count_more 9 i t h) ∙ ap (λ (x : ℕ). x + cond (eqb (get_or t i 0) 9) 1 0) z.seen ∙ sym e }
 
-  pub scanned_end : get_or s i 0 ≡ 10 → LineAt s from (record { end = i; tabs = tabs })
-  scanned_end m =
-      let d = drop_here s i h in
-      let e = ap (before 10) d ∙ before_hit 10 (get_or s i 0) (drop (i + 1) s) m in
-      let u = ap (until 10) d ∙ until_hit 10 (get_or s i 0) (drop (i + 1) s) m in
-      let v = ap (count 9) u ∙ count_none 9 in
-      record { end = omega arith; tabs = omega arith; within = omega arith }
+    pub scanned_byte : (k : ℕ) → k ≡ tabs → (get_or t i 0 ≡ 10 → ⊥) → (get_or t i 0 ≡ 9 → ⊥) → Scanned t (i + 1) k
+    scanned_byte k e n m = scanned_on k n (omega (arith, e, z.few)) (rw (ne_eqb (get_or t i 0) 9 m) (omega (arith, e)))
 
-pub scanned_all : (s : List ℕ) (from i tabs : ℕ) → Scanned s from i tabs → length s ≤ i → LineAt s from (record { end = i; tabs = tabs })
-scanned_all s from i tabs z h =
-    let d = drop_none s i h in
-    let e = ap (before 10) d ∙ before_none 10 in
-    let u = ap (until 10) d ∙ until_none 10 in
-    let v = ap (count 9) u ∙ count_none 9 in
-    record { end = omega arith; tabs = omega arith; within = omega arith }
+    pub scanned_tab : (k : ℕ) → k ≡ tabs + 1 → (get_or t i 0 ≡ 10 → ⊥) → get_or t i 0 ≡ 9 → Scanned t (i + 1) k
+    scanned_tab k e n m = scanned_on k n (omega (arith, e, z.few)) (rw (eq-eqb (get_or t i 0) 9 m) (omega (arith, e)))
+
+    pub scanned_end : get_or t i 0 ≡ 10 → Some (take i t) ≡ next_line t
+    unfolding next_line until
+    scanned_end e =
+        let d = ap (before 10) (drop_here t i h) ∙ before_hit 10 (get_or t i 0) (drop (i + 1) t) e in
+        let q : before 10 t ≡ i = omega (arith, z.end, d) in
+        rw (lt_ahead 10 t (omega (arith, q)), q) refl
+
+  pub scanned_all : length t ≤ i → None ≡ next_line t
+  unfolding next_line ahead
+  scanned_all h =
+      let q : length t ≤ before 10 t = omega (arith, z.end) in
+      rw (le-ltb (before 10 t) (length t) q) refl
+
+-- ---- the next line
+
+-- The next line of the text t.
+pub record NextLine (t bytes : List ℕ) : Type 0 where
+  pub ends : ahead 10 t ≡ true
+  pub is : bytes ≡ until 10 t
+  pub long : length bytes < length t
+  pub next : beyond 10 t ≡ drop (length bytes + 1) t
+
+pub line_some : (t bytes : List ℕ) → Some bytes ≡ next_line t → NextLine t bytes
+unfolding next_line beyond
+line_some t bytes e =
+    let h = cond_some (ahead 10 t) (until 10 t) bytes (sym e) in
+    let l : length bytes ≡ before 10 t = rw (← h.1) (length_until 10 t) in
+    let q : length bytes + 1 ≡ suc (before 10 t) = omega (arith, l) in
+    record { ends = h.0; is = sym h.1; long = omega (arith, l, ahead_lt 10 t h.0); next = rw q refl }
+
+pub line_none : (t : List ℕ) → None ≡ next_line t → ahead 10 t ≡ false
+unfolding next_line
+line_none t e = none_test (ahead 10 t) (until 10 t) e
 
 -- ---- every byte in a range
 

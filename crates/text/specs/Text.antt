@@ -2,7 +2,7 @@
 -- by one byte 9." The next line of a text is what stands before its first byte 10, and the next field of a line what stands
 -- before its first byte 9.
 -- Assumes nothing.
-use Rattle.std.specs.Prelude.{Bool, true, false, cond, List, [], ◌∷◌, ℕ, suc, ◌-◌, eqb, leb, ltb, length, take, drop}
+use Rattle.std.specs.Prelude.{Bool, true, false, cond, List, [], ◌∷◌, ℕ, suc, ◌-◌, eqb, leb, ltb, length, take, drop, Option, Some, None}
 
 -- How many bytes stand before the first byte b; all of them where there is none.
 unfoldable pub before : ℕ → List ℕ → ℕ
@@ -20,6 +20,10 @@ beyond b t = drop (suc (before b t)) t
 -- A byte b is ahead.
 unfoldable pub ahead : ℕ → List ℕ → Bool
 ahead b t = ltb (before b t) (length t)
+
+-- The next line of a text: the bytes before its first byte 10, where there is one.
+unfoldable pub next_line : List ℕ → Option (List ℕ)
+next_line t = cond (ahead 10 t) (Some (until 10 t)) None
 
 -- How many bytes b there are: a line has one field more than it has bytes 9.
 unfoldable pub count : ℕ → List ℕ → ℕ

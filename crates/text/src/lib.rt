@@ -1,87 +1,73 @@
 #![tactic(auto)]
 
-ghost use Rattle.std.specs.Prelude.{◌≡◌, ◌+◌, ◌≤◌, ◌<◌, length, get_or};
-ghost use Rattle.text.specs.Text.{before, part};
-ghost use Rattle.text.specs.Line.{LineAt};
+ghost use Rattle.std.specs.Prelude.{◌≡◌, ◌+◌, ◌==◌, length, drop, position};
+ghost use Rattle.std.specs.Option.{option_map};
+ghost use Rattle.text.specs.Text.{before, count, next_line};
 
 // Document 01: "Lines end with byte 10; fields are parted by one byte 9."
-pub const LINE_END: u8 = 10;
+pub const LINE_END: u8 = b'\n';
 
-pub const TAB: u8 = 9;
+pub const TAB: u8 = b'\t';
 
 // How many bytes are looked at without a test of the text's end.
 const STRIDE: usize = 8;
 
-// Where a line ends, at its byte 10 or at the end of the text, and how many bytes 9 it has.
-#[derive(Drop)]
-pub struct Line {
-    pub end: usize,
+// A line without its byte 10, and how many bytes 9 it has.
+#[derive(Clone, Copy)]
+pub struct Line<'a> {
+    pub bytes: &'a [u8],
     pub tabs: usize,
+    ghost counted: { tabs ≡ count 9 bytes.now },
 }
 
-// Goes on from `from` to the next byte b, over 8 bytes at most.
-fn pass_eight(s: &[u8], from: usize, to: usize, b: u8) -> usize
-    requires { (from + 8 ≤ to) × (to ≤ length s.now) }
-    ensures s_value { from + before b (part from to s.now) ≡ result + before b (part result to s.now) }
-    ensures upper_bound { (result ≤ from + 8) × (result < from + 8 → get_or s.now result 0 ≡ b) }
+// The place of the first byte b.
+fn first_place(t: &[u8], b: u8) -> Option<usize>
+    ensures { result ≡ position (λ c. c == b) t.now }
 {
-    let mut k: usize = 0;
-    while k < STRIDE {
-        if s[from + k] == b {
-            return from + k;
+    t.iter().position(|c| *c == b)
+}
+
+// How many bytes stand before the first byte b; all of them where there is none. A count and no Option, since every caller cuts the
+// text off there or goes on behind it.
+pub fn find(t: &[u8], b: u8) -> usize
+    ensures { result ≡ before b t.now }
+{
+    let mut rest = t;
+    while let Some((eight, more)) = rest.split_first_chunk::<STRIDE>() {
+        if let Some(k) = first_place(eight, b) {
+            return t.len() - rest.len() + k;
         }
-        k += 1;
+        rest = more;
     }
-    from + k
+    t.len() - rest.len() + first_place(rest, b).unwrap_or(rest.len())
 }
 
-// The first place of byte b from `from` on, or `to` where there is none before it, byte by byte.
-fn find_near(s: &[u8], from: usize, to: usize, b: u8) -> usize
-    requires { (from ≤ to) × (to ≤ length s.now) }
-    ensures { (result ≡ from + before b (part from to s.now)) × (result ≤ to) }
+// What comes after place i of a text; nothing where it ends there.
+pub fn behind(t: &[u8], i: usize) -> &[u8]
+    ensures { result.now ≡ drop (i + 1) t.now }
 {
-    let mut i = from;
-    while i < to {
-        if s[i] == b {
-            return i;
-        }
-        i += 1;
+    if i < t.len() {
+        &t[i + 1..]
+    } else {
+        &t[t.len()..]
     }
-    i
 }
 
-// The same, 8 bytes at a time.
-pub fn find(s: &[u8], from: usize, to: usize, b: u8) -> usize
-    requires { (from ≤ to) × (to ≤ length s.now) }
-    ensures { (result ≡ from + before b (part from to s.now)) × (result ≤ to) }
+// The next line of a text; none where it has no byte 10.
+pub fn next_line(t: &[u8]) -> Option<Line<'_>>
+    ensures { option_map (λ l. l.bytes.now) result ≡ next_line t.now }
 {
-    let mut i = from;
-    while STRIDE <= to - i {
-        let next = pass_eight(s, i, to, b);
-        if next < i + STRIDE {
-            return next;
-        }
-        i = next;
-    }
-    find_near(s, i, to, b)
-}
-
-// The line that starts at `from`.
-pub fn scan_line(s: &[u8], from: usize) -> Line
-    requires { from ≤ length s.now }
-    ensures { LineAt s.now from result }
-{
-    let mut i = from;
-    let mut tabs: usize = 0;
-    while i < s.len() {
-        let b = s[i];
+    let mut tabs = 0;
+    for (i, &b) in t.iter().enumerate() {
         if b == LINE_END {
-            return Line { end: i, tabs };
+            return Some(Line {
+                bytes: &t[..i],
+                tabs,
+            });
         }
         if b == TAB {
             tabs += 1;
         }
-        i += 1;
     }
-    Line { end: i, tabs }
+    None
 }

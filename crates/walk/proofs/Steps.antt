@@ -6,8 +6,9 @@ use mathlib.Core.List.{List, [], ◌∷◌, ◌++◌, append_assoc, append-nil}
 use Prim.Native.Nat.{ℕ, suc, ◌+◌, ◌-◌, ◌≤◌, ◌<◌}
 use native.Mathlib.Numerals.{add-one}
 use native.Mathlib.Omega.{arith}
-use lib.ListN.{length, set, take, drop, length-set, take-append-drop}
-use lib.Seq.{take-suc-set, drop-set-lt, drop-drop}
+use lib.ListN.{length, set, take, length-set}
+use lib.Seq.{take-suc-set, take-length}
+use Rattle.std.proofs.lemmas.List.{length-take}
 use Rattle.thermal.specs.Rounding.{raise}
 use Rattle.frame.specs.Sheet.{Sheet, Ranges}
 use Rattle.frame.specs.Run.{State, fresh, step}
@@ -18,7 +19,9 @@ use Rattle.frame.proofs.Walk.{first_same, alike_cell, least_alike, plan_alike, G
 use Rattle.run.specs.Run.{state_of}
 use Rattle.run.specs.declared.Run.{Run}
 use Rattle.table.specs.declared.Frame.{Frame}
-use Rattle.table.specs.Table.{Axes, AtCell, Holds}
+use Rattle.step.specs.Store.{Rests}
+use Rattle.step.proofs.Store.{rests}
+use Rattle.table.specs.Table.{Axes, Framed, AtCell, Holds}
 use Rattle.table.proofs.Cells.{at_cell}
 use Rattle.table.proofs.Ways.{next_level, next_done, next_peak, next_at_cell}
 use Rattle.lookup.specs.Lookup.{rest_by}
@@ -55,16 +58,27 @@ module _ {s : Sheet} {f : Frame} (x : Axes s f) (b : Run) where
       c ≡ cell_of s (state_of b)
   raised_cell c e = rw (← x.energy_step, ← x.temperature_step) e
 
+-- ---- a step from a cell
+
+-- What the next job of a cell rests on, at a level of the sheet.
+pub cell_rests : {s : Sheet} {f : Frame} {store steady : List ℕ} → Framed s f store steady → (a : Run) → AtCell s (state_of a) → (j : ℕ) → j < s.levels → Rests a store steady j
+cell_rests w a at j l =
+    let ok = w.axes.ranges in
+    rests w.stored a j ok (omega (arith, at.done, ok.jobs.high)) (omega (arith, at.level, ok.levels.high)) (omega (arith, l, ok.levels.high)) (omega (arith, ap (λ (z : State). z.time) at.anew)) (omega (arith, at.energy)) at.temperature
+
 -- ---- how far the walk has come: the first i of n levels written
 
-pub record Going (s : Sheet) (start : State) (n : ℕ) (old part : List ℕ) (i : ℕ) (a : State) : Type 0 where
+pub record Going (s : Sheet) (start : State) (n : ℕ) (levels : List ℕ) (i : ℕ) (a : State) : Type 0 where
   pub most : i ≤ n
-  pub long : length part ≡ length old
+  pub long : length levels ≡ n
   pub count : a.done + (n - i) ≡ s.jobs
   pub at : i < n → AtCell s a
   pub alive : least s (n - i) a < infeasible
-  pub done : take i part ++ plan s (n - i) a ≡ plan s n start
-  pub rest : drop i part ≡ drop i old
+  pub done : take i levels ++ plan s (n - i) a ≡ plan s n start
+
+-- A place among the first n is below n.
+pub within : {n i : ℕ} (part : List ℕ) → i < length (take n part) → i < n
+within {n} {i} part h = omega (arith, h, length-take n part)
 
 module _ {s : Sheet} (ok : Ranges s) where
   -- The cell to which the start is raised: it has the start's plan.
@@ -77,12 +91,12 @@ module _ {s : Sheet} (ok : Ranges s) where
   pub starts_way : {start a : State} (n : ℕ) → Starts s start → a ≡ cell_of s start → n ≡ s.jobs - start.done → least s n a < infeasible
   starts_way {start} n w e m = rw (e, ← least_alike s n (alike_cell s ok start), m) w.way
 
-  pub going_start : (a : State) (n : ℕ) (old : List ℕ) → a.done + n ≡ s.jobs → AtCell s a → least s n a < infeasible → Going s a n old old 0 a
-  going_start a n old m c l =
+  pub going_start : (a : State) (n : ℕ) (levels : List ℕ) → length levels ≡ n → a.done + n ≡ s.jobs → AtCell s a → least s n a < infeasible → Going s a n levels 0 a
+  going_start a n levels k m c l =
       let z : n - 0 ≡ n = omega arith in
-      record { most = omega arith; long = refl; count = rw z m; at = λ h. c; alive = rw z l; done = rw z refl; rest = refl }
+      record { most = omega arith; long = k; count = rw z m; at = λ h. c; alive = rw z l; done = rw z refl }
 
-  module _ {start : State} {n : ℕ} {old part : List ℕ} {i : ℕ} {a : State} (g : Going s start n old part i a) (l : i < n) (t : List ℕ)
+  module _ {start : State} {n : ℕ} {levels : List ℕ} {i : ℕ} {a : State} (g : Going s start n levels i a) (l : i < n) (t : List ℕ)
       (h : Holds s t (suc a.done)) (j : ℕ) (q : j ≡ level_by s t a) where
     one_left : n - i ≡ suc (n - (i + 1))
     one_left = omega arith
@@ -91,8 +105,8 @@ module _ {s : Sheet} (ok : Ranges s) where
     going_level = chosen ok t a (n - (i + 1)) h (omega (arith, g.count)) (rw one_left at g.alive) j q
 
     -- The job that follows, and the cell to which its end is raised.
-    pub going_next : n ≤ length old → (b c : State) → b ≡ step s a j → c ≡ cell_of s b → Going s start n old (set part i j) (i + 1) c
-    going_next room b c e d =
+    pub going_next : (b c : State) → b ≡ step s a j → c ≡ cell_of s b → Going s start n (set levels i j) (i + 1) c
+    going_next b c e d =
         let w = going_level in
         let x : b ≡ next s a j = e ∙ sym (next_at_cell s j (g.at l)) in
         let y = alike_cell s ok b in
@@ -101,25 +115,23 @@ module _ {s : Sheet} (ok : Ranges s) where
         rw one_left w.rest ∙ ap (λ (z : State). j ∷ plan s (n - (i + 1)) z) (sym x) ∙ ap (λ (js : List ℕ). j ∷ js) (plan_alike s (n - (i + 1)) y ∙ ap (plan s (n - (i + 1))) (sym d)) in
         record {
           most = omega arith;
-          long = length-set part i j ∙ g.long;
+          long = length-set levels i j ∙ g.long;
           count = rw d (omega (arith, k, g.count));
           at = λ m.
               rw d
               (raised_at ok b (omega (arith, k, g.count)) (rw (ap (λ (z : State). z.level) x ∙ next_level s a j) w.level) (rw x w.energy) (rw x (omega (arith, next_peak s a j, w.peak))));
           alive = rw (d, ← least_alike s (n - (i + 1)) y, x) w.alive;
           done =
-              ap (λ (js : List ℕ). js ++ plan s (n - (i + 1)) c) (ap (λ (m : ℕ). take m (set part i j)) (add-one i) ∙ take-suc-set part i j (omega (arith, g.long)))
-              ∙ append_assoc (take i part) (j ∷ []) (plan s (n - (i + 1)) c)
-              ∙ ap (λ (js : List ℕ). take i part ++ js) (sym on)
+              ap (λ (js : List ℕ). js ++ plan s (n - (i + 1)) c) (ap (λ (m : ℕ). take m (set levels i j)) (add-one i) ∙ take-suc-set levels i j (omega (arith, g.long)))
+              ∙ append_assoc (take i levels) (j ∷ []) (plan s (n - (i + 1)) c)
+              ∙ ap (λ (js : List ℕ). take i levels ++ js) (sym on)
               ∙ g.done;
-          rest = drop-set-lt (i + 1) part i j (omega arith) ∙ sym (drop-drop 1 i part) ∙ ap (drop 1) g.rest ∙ drop-drop 1 i old;
         }
 
-  pub going_end : {start : State} {n : ℕ} {old part : List ℕ} {i : ℕ} {a : State} → n ≤ i → Going s start n old part i a →
-      part ≡ plan s n start ++ drop n old
+  pub going_end : {start : State} {n : ℕ} {levels : List ℕ} {i : ℕ} {a : State} → n ≤ i → Going s start n levels i a → levels ≡ plan s n start
   unfolding plan choice
-  going_end {start} {n} {old} {part} {i} {a} h g =
-      let im : i ≡ n = omega (arith, g.most) in
+  going_end {start} {n} {levels} {i} {a} h g =
       let z : n - i ≡ 0 = omega arith in
-      let d : take i part ++ [] ≡ plan s n start = rw z at g.done in
-      sym (take-append-drop i part) ∙ cc (im, d, g.rest, append-nil (take i part))
+      let d : take i levels ++ [] ≡ plan s n start = rw z at g.done in
+      let e : length levels ≡ i = omega (arith, h, g.most, g.long) in
+      sym (take-length levels) ∙ ap (λ (m : ℕ). take m levels) e ∙ sym (append-nil (take i levels)) ∙ d

@@ -6,14 +6,13 @@ ghost use Rattle.frame.specs.Sheet.{Sheet};
 ghost use Rattle.frame.specs.Run.{fresh};
 ghost use Rattle.frame.specs.Plan.{plan};
 ghost use Rattle.frame.specs.Table.{need};
-ghost use Rattle.store.specs.Figures.{sheet_of};
 ghost use Rattle.run.specs.Run.{state_of};
-ghost use Rattle.table.specs.Table.{Framed, Raises, Holds};
+ghost use Rattle.table.specs.Table.{Raises, Holds};
+ghost use Rattle.table.specs.Problem.{sheet_for};
 ghost use Rattle.walk.specs.Walk.{Starts};
 
 use run::Run;
-use store::{LEVELS_MAX, STORE_SIZE};
-use table::Frame;
+use table::{Frame, Problem};
 
 // The cell to which a run is raised.
 fn raise_run(f: Frame, b: Run) -> Run
@@ -27,30 +26,21 @@ fn raise_run(f: Frame, b: Run) -> Run
 }
 
 // Follows a filled table from `start`, and writes the level of each job that is left.
-pub fn walk(
-    f: Frame,
-    store: &[u32; STORE_SIZE],
-    steady: &[u32; LEVELS_MAX],
-    table: &[u32],
-    start: Run,
-    part: &mut [u8],
-)
-    requires { let s = sheet_of f.head store.now in record {
-      framed : Framed s f store.now steady.now;
+pub fn walk(problem: &Problem, table: &[u32], start: Run, part: &mut [u8])
+    requires { let s = sheet_for problem.now in record {
       room : need s ≤ length table.now;
       words : (i : ℕ) → Holds s table.now i;
       starts : Starts s (state_of start);
       long : s.jobs - start.done ≤ length part.old;
     } }
-    ensures { let s = sheet_of f.head store.now in part.new ≡ plan s (s.jobs - start.done) (state_of start) ++ drop (s.jobs - start.done) part.old }
+    ensures { let s = sheet_for problem.now in part.new ≡ plan s (s.jobs - start.done) (state_of start) ++ drop (s.jobs - start.done) part.old }
 {
+    let f = problem.frame;
     let n = (f.head.jobs - start.done) as usize;
     let mut a = raise_run(f, start);
-    let mut i: usize = 0;
-    while i < n {
-        let j = choice::choose(f, store, steady, table, a);
-        part[i] = j as u8;
-        a = raise_run(f, step::next_job(a, store, steady, j));
-        i += 1;
+    for level in part[..n].iter_mut() {
+        let j = choice::choose(problem, table, a);
+        *level = j as u8;
+        a = raise_run(f, problem.figures.next_job(a, j));
     }
 }

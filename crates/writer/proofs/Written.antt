@@ -1,25 +1,18 @@
--- Laws of `Wrote`: nothing, one byte, and one piece after another.
+-- Laws of `Wrote` and `Writes`: nothing, the part's length, and one piece after another.
 -- Assumes nothing.
-use mathlib.Core.Path.{◌≡◌, refl, sym, ap, ◌∙◌}
+use mathlib.Core.Path.{◌≡◌, sym, ap, ◌∙◌}
 use mathlib.Core.List.{List, [], ◌∷◌, ◌++◌, append_assoc, append-nil}
-use Prim.Native.Nat.{ℕ, suc, ◌+◌, ◌≤◌, ◌<◌}
+use Prim.Native.Nat.{ℕ, ◌+◌, ◌≤◌, ◌<◌}
 use native.Mathlib.Nat.{add-zero, add_assoc}
 use native.Mathlib.Numerals.{add-one}
 use native.Mathlib.Omega.{arith}
-use lib.ListN.{length, get_or, take, drop, set, length-append, length-take, length-drop, take-append-drop}
-use lib.Seq.{set_split, take-suc, take_all, append_snoc, take_at, drop_at, drop-drop}
-use Rattle.writer.specs.Written.{Wrote}
+use lib.ListN.{length, get_or, take, drop, length-append, length-take, length-drop, take-append-drop}
+use lib.Seq.{take-suc, take_all, take_at, drop_at, drop-drop}
+use Rattle.writer.specs.declared.Writer.{Writer}
+use Rattle.writer.specs.Written.{Wrote, Writes, Room}
 
 pub wrote_none : (old : List ℕ) (from : ℕ) → from ≤ length old → Wrote old from [] old from
 wrote_none old from h = record { room = omega arith; bytes = rw (append-nil, add-zero, take-append-drop); place = omega arith }
-
-pub wrote_byte : (old : List ℕ) (from b : ℕ) → from < length old → Wrote old from (b ∷ []) (set old from b) (from + 1)
-wrote_byte old from b h =
-    record {
-      room = omega arith;
-      bytes = rw (add-one from) (set_split old from b h ∙ sym (append_snoc (take from old) b (drop (suc from) old)));
-      place = refl;
-    }
 
 pub wrote_length : {old xs new : List ℕ} {from next : ℕ} → Wrote old from xs new next → length new ≡ length old
 wrote_length {old} {xs} {new} {from} w =
@@ -39,12 +32,28 @@ join {a} {xs} {b} {ys} {c} {from} {p} v w =
       place = rw length-append (omega (arith, v.place, w.place));
     }
 
--- A copy of the bytes s, of which i are written: one more, and the last.
-module _ {old new : List ℕ} {from : ℕ} (s : List ℕ) (i : ℕ) (w : Wrote old from (take i s) new (from + i)) where
-  pub copy_more : i < length s → from + length s ≤ length old → Wrote old from (take (i + 1) s) (set new (from + i) (get_or s i 0)) (from + (i + 1))
-  copy_more h g =
-      let q : from + (i + 1) ≡ from + i + 1 = omega arith in
-      rw (q, add-one i, take-suc s i 0 h) (join w (wrote_byte new (from + i) _ (omega (arith, wrote_length w))))
+-- A part's length and the place of its next byte after a piece.
+pub record Moved (old new : Writer) (n : ℕ) : Type 0 where
+  pub long : length new.part.now ≡ length old.part.now
+  pub place : new.at ≡ old.at + n
 
-  pub copy_all : i ≡ length s → Wrote old from s new (from + length s)
-  copy_all e = rw (e, take_all (length s) s (omega arith)) at w
+pub moved : {a b : Writer} {xs : List ℕ} → Writes a b xs → Moved a b (length xs)
+moved v = record { long = wrote_length v.wrote; place = v.wrote.place }
+
+pub writes_both : {a b c : Writer} {xs ys : List ℕ} → Writes a b xs → Writes b c ys → Writes a c (xs ++ ys)
+writes_both v w = record { same_part = w.same_part ∙ v.same_part; wrote = join v.wrote w.wrote }
+
+-- The part that was lent, once it is given back.
+pub given_back : {a b : Writer} {xs text : List ℕ} → Writes a b xs → b.part.now ≡ text → Wrote a.part.now a.at xs text b.at
+given_back v e = rw e at v.wrote
+
+-- Of the bytes s the first i are written: there is room for one more, one more, and the last.
+module _ {a b : Writer} (s : List ℕ) (i : ℕ) (w : Writes a b (take i s)) where
+  pub written_room : i < length s → Room a (length s) → Room b 1
+  written_room h r = omega (arith, moved w, length-take i s)
+
+  pub written_more : {c : Writer} → i < length s → Writes b c (get_or s i 0 ∷ []) → Writes a c (take (i + 1) s)
+  written_more h v = rw (add-one i, take-suc s i 0 h) (writes_both w v)
+
+  pub written_all : length s ≤ i → Writes a b s
+  written_all h = rw (take_all i s (omega arith)) at w

@@ -1,23 +1,23 @@
--- `read_name` reads a J line in one pass where `take_name` takes it, and else by `scan_line` and `check_name`; both are `NameRead`.
-use mathlib.Core.Path.{sym}
-use native.Mathlib.Omega.{arith}
-use Rattle.text.proofs.Scanned.{line_tabs, line_from}
-use Rattle.fast_name_lines.proofs.Name.{name_line}
+-- `read_name` reads a J line in one pass where `take_name` takes it, and else by `next_line` and `check_name`; both are `NameRead`.
 use borrow.Author.Rules.{rules}
-use Rattle.body.proofs.Body.{name_missing, name_read}
+use Rattle.std.proofs.lemmas.Result.{err_from_is_err_and}
+use Rattle.lines.proofs.Take.{part_behind}
+use Rattle.body.proofs.Body.{name_missing, name_wrong, name_read, name_taken}
 use Rattle.body.proofs.read_name.Goals as goal
 
 pub overflow_add-result : goal.overflow_add-result
-overflow_add-result c = omega (arith, (name_line _ _ _ c.take_name-taken.ensures c.if-at-taken.true).ended)
+overflow_add-result c = let h = (name_taken c.args.s.now c.args.at _ (rw (part_behind c.args.s.now c.args.at) at c.in-Some.ensures)).next.1 in search rules
 
-pub returns-then-at-taken : goal.returns-then-at-taken
-returns-then-at-taken c = let z = name_line _ _ _ c.take_name-taken.ensures c.if-at-taken.true in name_read z.line z.ended _ (sym z.sound)
+pub returns-in-Some : goal.returns-in-Some
+returns-in-Some c = name_taken c.args.s.now c.args.at _ (rw (part_behind c.args.s.now c.args.at) at c.in-Some.ensures)
 
-pub returns-then-e-s : goal.returns-then-e-s
-returns-then-e-s c = name_missing c.scan_line-n.ensures (search rules) (search rules)
+pub returns-in_default-next_line : goal.returns-in_default-next_line
+returns-in_default-next_line c = name_missing _ _ (rw (part_behind c.args.s.now c.args.at) at c.in_default-next_line.ensures)
 
-pub check_name-fault-requires : goal.check_name-fault-requires
-check_name-fault-requires c = let z = c.scan_line-n.ensures in (line_from z, z.within, line_tabs z)
+pub returns-in_err-check_name : goal.returns-in_err-check_name
+returns-in_err-check_name c =
+    let p = err_from_is_err_and c.from_residual.result c.from_residual.ensures.1 in
+    rw (p.1, p.2) (name_wrong _ _ _ (rw (part_behind c.args.s.now c.args.at) at c.in-Some-next_line.ensures) _ c.in_err-check_name.ensures)
 
 pub returns : goal.returns
-returns c = let z = c.scan_line-n.ensures in name_read z (omega (arith, z.within, c.if-e-s.false)) _ c.check_name-fault.ensures
+returns c = name_read _ _ _ (rw (part_behind c.args.s.now c.args.at) at c.in-Some-next_line.ensures) c.in_ok-check_name.ensures

@@ -1,11 +1,10 @@
 -- The level is the first of the least, by an invariant over the levels tried.
-use mathlib.Core.Path.{sym, ap, ◌∙◌}
+use mathlib.Core.Path.{sym}
 use Prim.Native.Nat.{ℕ}
-use native.Mathlib.Nat.{le_antisymm}
 use native.Mathlib.Omega.{arith}
-use Rattle.frame.specs.Plan.{least_of, first_within, via}
+use Rattle.frame.specs.Plan.{via}
 use Rattle.run.specs.Run.{state_of}
-use Rattle.store.specs.Figures.{sheet_of}
+use Rattle.table.specs.Problem.{sheet_for}
 use Rattle.lookup.specs.Lookup.{rest_by}
 use Rattle.table.proofs.Ways.{least_none, least_more}
 use Rattle.choice.proofs.Choice.{first_none, first_less, first_kept}
@@ -20,27 +19,15 @@ abbrev ways : Sheet → List ℕ → State → ℕ → ℕ
 ways s table a = via s (rest_by s table) a
 
 pub loop-j-init : goal.loop-j-init
-loop-j-init c = record { most = omega arith; least_is = sym (least_none _); first_is = sym (first_none _) }
-
-pub way-t-requires : goal.way-t-requires
-way-t-requires c =
-    let a = c.requires in
-    record { framed = a.framed; room = a.room; at = a.at; level = omega (arith, a.framed.axes.levels, c.loop-j-test.true) }
-
-pub overflow_add-j : goal.overflow_add-j
-overflow_add-j c = omega (arith, c.loop-j-test.true, c.requires.framed.axes.levels, c.requires.framed.axes.ranges.levels.high)
-
-pub loop-j-smaller : goal.loop-j-smaller
-loop-j-smaller c = omega (arith, c.loop-j-test.true)
+loop-j-init c = record { least_is = sym (least_none _); first_is = sym (first_none _) }
 
 pub loop-j-preserved : goal.loop-j-preserved
 loop-j-preserved c =
     let l = c.loop-j in
-    let w = ways (sheet_of c.args.f.head c.args.store.now) c.args.table.now (state_of c.args.a) in
+    let w = ways (sheet_for c.args.problem.now) c.args.table.now (state_of c.args.a) in
     let more = least_more l.j w in
     let v = c.way-t.ensures in
     record {
-      most = omega (arith, c.loop-j-test.true);
       least_is = elim c.if-t-least.branch [
         | then-t-least h ↦ omega (arith, more, l.invariant.least_is, v)
         | else-t-least h ↦ omega (arith, more, l.invariant.least_is, v)
@@ -48,10 +35,3 @@ loop-j-preserved c =
       first_is =
           elim c.if-t-least.branch [ then-t-least h ↦ omega (arith, first_less w l.j (omega (arith, l.invariant.least_is, v)), l.invariant.least_is, v) | else-t-least h ↦ omega (arith, first_kept w l.j (omega (arith, l.invariant.least_is, v)), l.invariant.first_is) ];
     }
-
-pub returns : goal.returns
-returns c =
-    let i = c.loop-j.invariant in
-    let w = ways (sheet_of c.args.f.head c.args.store.now) c.args.table.now (state_of c.args.a) in
-    let k = le_antisymm i.most c.loop-j-test.false ∙ c.requires.framed.axes.levels in
-    i.first_is ∙ ap (λ (m : ℕ). first_within m w (least_of m w)) k

@@ -1,14 +1,23 @@
 -- `starts_with` answers as the definition does, by the room and the first two bytes.
-use native.Mathlib.Omega.{arith}
+use mathlib.Core.Path.{refl, sym, ◌∙◌}
 use borrow.Author.Rules.{rules}
-use Rattle.fast_fields.proofs.Line.{starts_not, starts_second}
+use borrow.Author.Tests.{le-leb}
+use Rattle.fast_fields.specs.Take.{starts}
+use Rattle.fast_fields.proofs.starts_with.Goals.{then-room-t, else-room-t}
 use Rattle.fast_fields.proofs.starts_with.Goals as goal
 
-pub returns-then-s-from : goal.returns-then-s-from
-returns-then-s-from c = starts_not _ _ _ _ (λ z. omega (arith, z.within))
+pub returns-then-t-letter : goal.returns-then-t-letter
+unfolding starts
+returns-then-t-letter c =
+    elim c.if-room-t.branch [
+      | then-room-t w ↦ rw (le-leb _ _ w.if-room-t.true, sym w.value-is ∙ c.if-t-letter.true) refl
+      | else-room-t w ↦ rw (sym w.value-is ∙ c.if-t-letter.true) search rules
+    ]
 
-pub returns-then-s-from-2 : goal.returns-then-s-from-2
-returns-then-s-from-2 c = starts_not _ _ _ _ (λ z. c.if-s-from-2.true z.first)
-
-pub returns : goal.returns
-returns c = starts_second _ _ _ _ (search rules) (search rules)
+pub returns-else-t-letter : goal.returns-else-t-letter
+unfolding starts
+returns-else-t-letter c =
+    elim c.if-room-t.branch [
+      | then-room-t w ↦ rw (le-leb _ _ w.if-room-t.true, sym w.value-is ∙ c.if-t-letter.false) c.if-t-letter.false
+      | else-room-t w ↦ rw (sym w.value-is ∙ c.if-t-letter.false) c.if-t-letter.false
+    ]

@@ -1,72 +1,45 @@
--- `take_number` takes what the definition takes: `Digits` holds of what was passed, and each way out is one of the laws of taking.
-use mathlib.Core.Path.{◌≡◌, refl, sym}
-use mathlib.Core.Logic.{inl, inr}
-use Prim.Native.Nat.{◌+◌, ◌^◌, ◌<◌}
+-- `take_number` takes what the definition takes: `Passed` holds of the digits that were looked at, and each way out is one of the laws
+-- of taking.
+use mathlib.Core.Path.{sym}
+use mathlib.Core.Logic.{◌⊎◌, inl, inr}
+use Prim.Native.Nat.{◌≤◌}
 use native.Mathlib.Omega.{arith}
+use lib.ListN.{get_or}
 use borrow.Author.Rules.{rules}
-use Rattle.numbers.proofs.Number.{digits_none, digits_more, digits_value}
-use Rattle.fast_fields.proofs.Number.{take_open, take_none, take_zero, take_low, take_high, take_digits}
-use Rattle.fast_fields.proofs.take_number.Goals.{else-loop-k-test, then-loop-k-test+then-digit-lt48, then-loop-k-test+else-digit-lt48+then-digit-gt57, then-k-gt1+else-s-at-eq48, else-k-gt1}
+use Rattle.fast_fields.proofs.Number.{NoDigit, passed_more, passed_all, take_open, take_none, take_zero, take_low, take_high, take_digits}
+use Rattle.fast_fields.proofs.take_number.Goals.{else-loop-b-test, then-loop-b-test+then-not-is_ascii_digit, then-digits-eq0-via-then-digits-eq0, then-digits-eq0-via-else-digits-eq0+then-t-digits, else-digits-gt1-via-then-digits-gt1+else-t-eq48, else-digits-gt1-via-else-digits-gt1, then-v-range-via-then-v-range, then-v-range-via-else-v-range+then-range-v}
 use Rattle.fast_fields.proofs.take_number.Goals as goal
 
-pub loop-k-init : goal.loop-k-init
-loop-k-init c =
-    let a = c.args.at in
-    let z : a + 0 ≡ a = omega arith in
-    record { few = search rules; room = search rules; digits = rw z (digits_none _ _ _ _ (search rules) (search rules)) }
+pub loop-b-preserved : goal.loop-b-preserved
+loop-b-preserved c = passed_more _ _ _ _ _ c.loop-b.invariant (search rules) (search rules) (search rules) c.if-not-is_ascii_digit.ensures.cases
 
-pub overflow_mul-v : goal.overflow_mul-v
-overflow_mul-v c =
-    let few : c.loop-k.v < 10 ^ 7 = digits_value _ _ _ _ _ _ c.loop-k.invariant.digits 7 (search rules) in
-    omega arith
+pub returns-then-digits-eq0 : goal.returns-then-digits-eq0
+returns-then-digits-eq0 c =
+    let z = c.loop-b.invariant in
+    let e : (8 ≤ c.loop-b.digits) ⊎ NoDigit (get_or c.args.t.now c.loop-b.digits 0) =
+    elim c.loop-b-test.branch [
+      | else-loop-b-test w ↦ inl (search rules)
+      | then-loop-b-test+then-not-is_ascii_digit w ↦ passed_all _ _ _ _ _ z (search rules) w.if-not-is_ascii_digit.ensures.cases
+    ] in
+    elim c.then-digits-eq0.branch [
+      | then-digits-eq0-via-then-digits-eq0 w ↦ sym (take_none _ _ _ _ _ z.digits (search rules) (search rules) e)
+      | then-digits-eq0-via-else-digits-eq0+then-t-digits w ↦ sym (take_open _ _ _ _ _ z.digits (search rules) (search rules) e)
+    ]
 
-pub overflow_add-v : goal.overflow_add-v
-overflow_add-v c =
-    let few : c.loop-k.v < 10 ^ 7 = digits_value _ _ _ _ _ _ c.loop-k.invariant.digits 7 (search rules) in
-    omega arith
+pub returns-then-t-eq48 : goal.returns-then-t-eq48
+returns-then-t-eq48 c = sym (take_zero _ _ _ _ _ c.loop-b.invariant.digits (search rules) (search rules) (search rules))
 
-pub loop-k-preserved : goal.loop-k-preserved
-loop-k-preserved c =
-    let a = c.args in
-    let l = c.loop-k in
-    let z : a.at + (l.k + 1) ≡ a.at + l.k + 1 = omega arith in
-    record {
-      few = search rules;
-      room = search rules;
-      digits = rw z (digits_more _ _ _ _ _ _ l.invariant.digits (search rules) (λ e. omega arith) _ refl (search rules) (search rules) (search rules));
-    }
-
-pub returns-then-k-eq0 : goal.returns-then-k-eq0
-returns-then-k-eq0 c =
-    sym (take_none _ _ _ _ _ _ _ c.loop-k.invariant.digits (search rules) (search rules)
-    (elim c.loop-k-test.branch [
-      | else-loop-k-test w ↦ inl (search rules)
-      | then-loop-k-test+then-digit-lt48 w ↦ inr (inl (search rules))
-      | then-loop-k-test+else-digit-lt48+then-digit-gt57 w ↦ inr (inr (search rules))
-    ]))
-
-pub returns-then-s-at-eq48 : goal.returns-then-s-at-eq48
-returns-then-s-at-eq48 c = sym (take_zero _ _ _ _ _ _ _ c.loop-k.invariant.digits (search rules) (search rules) (search rules))
-
-pub returns-then-s-at : goal.returns-then-s-at
-returns-then-s-at c =
-    sym (take_open _ _ _ _ _ _ _ c.loop-k.invariant.digits (search rules) (search rules)
-    (elim c.loop-k-test.branch [
-      | else-loop-k-test w ↦ inl (search rules)
-      | then-loop-k-test+then-digit-lt48 w ↦ inr (inl (search rules))
-      | then-loop-k-test+else-digit-lt48+then-digit-gt57 w ↦ inr (inr (search rules))
-    ]))
-
-pub returns-then-v-lo : goal.returns-then-v-lo
-returns-then-v-lo c = sym (take_low _ _ _ _ _ _ _ c.loop-k.invariant.digits (search rules) (search rules) (search rules))
-
-pub returns-then-hi-v : goal.returns-then-hi-v
-returns-then-hi-v c = sym (take_high _ _ _ _ _ _ _ c.loop-k.invariant.digits (search rules) (search rules) (search rules))
+pub returns-then-v-range : goal.returns-then-v-range
+returns-then-v-range c =
+    elim c.then-v-range.branch [
+      | then-v-range-via-then-v-range w ↦ sym (take_low _ _ _ _ _ c.loop-b.invariant.digits (search rules) (search rules) (search rules))
+      | then-v-range-via-else-v-range+then-range-v w ↦ sym (take_high _ _ _ _ _ c.loop-b.invariant.digits (search rules) (search rules) (search rules))
+    ]
 
 pub returns : goal.returns
 returns c =
-    sym (take_digits _ _ _ _ _ _ _ c.loop-k.invariant.digits (search rules) (search rules) (search rules) (search rules)
-    (elim c.if-k-gt1.branch [
-      | then-k-gt1+else-s-at-eq48 w ↦ inr w.if-s-at-eq48.false
-      | else-k-gt1 w ↦ inl (omega arith)
+    sym (take_digits _ _ _ _ _ c.loop-b.invariant.digits (search rules) (search rules) (search rules) (search rules)
+    (elim c.else-digits-gt1.branch [
+      | else-digits-gt1-via-then-digits-gt1+else-t-eq48 w ↦ inr w.if-t-eq48.false
+      | else-digits-gt1-via-else-digits-gt1 w ↦ inl (omega arith)
     ]) (search rules) (search rules))

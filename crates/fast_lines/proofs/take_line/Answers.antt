@@ -1,23 +1,29 @@
--- `take_line` takes what the definition takes, by the line's kind.
-use borrow.Author.Rules.{rules}
-use Rattle.line_kinds.proofs.Figures.{few_levels, few_changes, few_works}
-use Rattle.fast_lines.proofs.Take.{takes_level, takes_change, takes_work}
+-- `take_line` takes what the definition says, by the line's kind: the numbers by `take_numbers`.
+use mathlib.Core.Path.{◌∙◌}
+use Rattle.fast_lines.proofs.Entries.{level, level_hot, level_so, change, work}
 use Rattle.fast_lines.proofs.take_line.Goals as goal
 
-pub take_level-requires : goal.take_level-requires
-take_level-requires c = record { start = search rules; figures = record { place = few_levels _ _ c.requires.figures.place _ c.in-Level.is; long = search rules } }
+pub returns-in_err-power-in-Level : goal.returns-in_err-power-in-Level
+returns-in_err-power-in-Level c = c.from_residual.ensures ∙ level _ _ _ _ c.in-Level.is c.in_err-power-in-Level.ensures
 
-pub take_change-requires : goal.take_change-requires
-take_change-requires c = record { start = search rules; figures = record { place = few_changes _ _ c.requires.figures.place _ c.in-Change.is; long = search rules } }
+pub returns-then-steady_state-gt-STEADY_STATE_MAX : goal.returns-then-steady_state-gt-STEADY_STATE_MAX
+returns-then-steady_state-gt-STEADY_STATE_MAX c =
+    level_hot _ _ _ _ c.in-Level.is _ _ c.in_ok-power-in-Level.ensures (rw c.steady_state.ensures at c.if-steady_state-gt-STEADY_STATE_MAX.true)
 
-pub take_work-requires : goal.take_work-requires
-take_work-requires c = record { start = search rules; figures = record { place = few_works _ _ c.requires.figures.place c.in-Work.is; long = search rules } }
+pub returns-else-steady_state-gt-STEADY_STATE_MAX : goal.returns-else-steady_state-gt-STEADY_STATE_MAX
+returns-else-steady_state-gt-STEADY_STATE_MAX c =
+    level_so _ _ _ _ c.in-Level.is _ _ c.in_ok-power-in-Level.ensures (rw c.steady_state.ensures at c.if-steady_state-gt-STEADY_STATE_MAX.false)
 
-pub returns-in-Level : goal.returns-in-Level
-returns-in-Level c = takes_level _ _ _ c.in-Level.is c.take_level.ensures
+pub returns-in_err-time-in-Change : goal.returns-in_err-time-in-Change
+returns-in_err-time-in-Change c =
+    c.from_residual-in_err-time-in-Change.ensures ∙ change _ _ _ _ c.in-Change.is _ c.cost_range-range.ensures c.in_err-time-in-Change.ensures
 
-pub returns-in-Change : goal.returns-in-Change
-returns-in-Change c = takes_change _ _ _ c.in-Change.is c.take_change.ensures
+pub returns-in_ok-time-in-Change : goal.returns-in_ok-time-in-Change
+returns-in_ok-time-in-Change c =
+    change _ _ _ _ c.in-Change.is _ c.cost_range-range.ensures c.in_ok-time-in-Change.ensures
 
-pub returns-in-Work : goal.returns-in-Work
-returns-in-Work c = takes_work _ _ c.in-Work.is c.take_work.ensures
+pub returns-in_err-time-in-Work : goal.returns-in_err-time-in-Work
+returns-in_err-time-in-Work c = c.from_residual-in_err-time-in-Work.ensures ∙ work _ _ _ c.in-Work.is c.in_err-time-in-Work.ensures
+
+pub returns-in_ok-time-in-Work : goal.returns-in_ok-time-in-Work
+returns-in_ok-time-in-Work c = work _ _ _ c.in-Work.is c.in_ok-time-in-Work.ensures

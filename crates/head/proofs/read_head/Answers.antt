@@ -1,22 +1,23 @@
--- `read_head` reads the numbers that the definition names: m and l, and then the others, the start level's range by `less_one`.
-use mathlib.Core.Path.{sym, ◌∙◌}
-use borrow.Author.Rules.{rules}
-use Rattle.fields.proofs.Fields.{opens_some}
-use Rattle.head.proofs.Head.{head_shape, head_other, head_rest}
+-- `read_head` reads the numbers that the definition names: m and l, and then the others, the start level's range by l.
+use mathlib.Core.Path.{sym}
+use Rattle.std.proofs.lemmas.Result.{err_from_is_err_and}
+use Rattle.head.proofs.Head.{head_shape, counts_fault, others_fault, head_whole}
 use Rattle.head.proofs.read_head.Goals as goal
 
 pub returns-then-not-opens_with : goal.returns-then-not-opens_with
-returns-then-not-opens_with c = head_shape _ _ _ (search rules) (search rules) (sym c.opens_with.ensures ∙ c.if-not-opens_with.true)
+returns-then-not-opens_with c = head_shape _ _ (sym c.if-not-opens_with.ensures)
 
-pub read_numbers-a-requires : goal.read_numbers-a-requires
-read_numbers-a-requires c =
-    let l = opens_some _ _ _ _ _ (search rules) (search rules) (sym c.opens_with.ensures ∙ c.if-not-opens_with.false) in
-    search rules
+pub returns-in_err-counts : goal.returns-in_err-counts
+returns-in_err-counts c =
+    let p = err_from_is_err_and c.from_residual.result c.from_residual.ensures.1 in
+    rw (p.1, p.2) (counts_fault _ _ (sym c.if-not-opens_with.ensures) _ (rw c.behind.ensures at (sym c.in_err-counts.ensures)))
 
-pub returns-in_default : goal.returns-in_default
-returns-in_default c = head_other _ _ _ (search rules) (search rules) (sym c.opens_with.ensures ∙ c.if-not-opens_with.false) _ c.read_numbers-a.ensures.result_value c.in_default.not-Sound
+pub returns-in_err-others : goal.returns-in_err-others
+returns-in_err-others c =
+    let p = err_from_is_err_and c.from_residual-in_err-others.result c.from_residual-in_err-others.ensures.1 in
+    rw (p.1, p.2)
+    (others_fault _ _ (sym c.if-not-opens_with.ensures) _ (rw c.behind.ensures at (sym c.in_ok-counts.ensures)) _ c.saturating_sub.ensures _ (sym c.in_err-others.ensures))
 
 pub returns : goal.returns
 returns c =
-    head_rest _ _ _ (search rules) (search rules) (sym c.opens_with.ensures ∙ c.if-not-opens_with.false) _ c.read_numbers-a.ensures.result_value c.in-Sound.is
-    _ c.less_one.ensures _ c.read_numbers.ensures.result_value
+    head_whole _ _ (sym c.if-not-opens_with.ensures) _ (rw c.behind.ensures at (sym c.in_ok-counts.ensures)) _ c.saturating_sub.ensures _ (sym c.in_ok-others.ensures)

@@ -24,12 +24,6 @@ parts {f} {b} {a} {t} s p q =
     omega (arith, k, le-mul_of_pos_right ((b.done * f.head.levels + b.level) * f.energy_cells + a) s.temperature_count) in
     record { job_level = omega (arith, o, le-mul_of_pos_right (b.done * f.head.levels + b.level) s.energy_count); energy_row = o; whole = k }
 
-pub overflow_mul-row : goal.overflow_mul-row
-overflow_mul-row c = omega (arith, parts c.requires c.ceil_div-a.ensures c.ceil_div-t.ensures)
-
-pub overflow_add-row : goal.overflow_add-row
-overflow_add-row c = omega (arith, parts c.requires c.ceil_div-a.ensures c.ceil_div-t.ensures)
-
 pub overflow_mul-result : goal.overflow_mul-result
 overflow_mul-result c = omega (arith, parts c.requires c.ceil_div-a.ensures c.ceil_div-t.ensures)
 

@@ -1,20 +1,7 @@
--- The moves of a job, by an invariant over the levels left.
-use mathlib.Core.Path.{◌≡◌}
-use Prim.Native.Nat.{◌*◌, ◌-◌, ◌≤◌}
-use lib.ListN.{length}
-use Rattle.store.specs.Figures.{sheet_of}
+-- The moves of a job, one by one.
+use Rattle.table.specs.Problem.{sheet_for}
 use Rattle.moves.specs.Moves.{Moves}
 use Rattle.moves.proofs.find_moves.Given as goal
 
-abbrev pub invariant-loop-p : goal.invariant-loop-p
-invariant-loop-p l =
-    record {
-      most : l.p ≤ l.f.head.levels;
-      shifts_long : length l.shifts ≡ length l.initial.shifts;
-      reaches_long : length l.reaches ≡ length l.initial.reaches;
-      times_long : length l.times ≡ length l.initial.times;
-      moves : Moves (sheet_of l.f.head l.store) l.i (l.p * (sheet_of l.f.head l.store).levels) l.shifts l.reaches l.times;
-    }
-
-abbrev pub decreases-loop-p : goal.decreases-loop-p
-decreases-loop-p l = l.f.head.levels - l.p
+abbrev pub invariant-loop-u : goal.invariant-loop-u
+invariant-loop-u l = Moves (sheet_for l.problem) l.i l.u l.moves

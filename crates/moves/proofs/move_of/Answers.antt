@@ -3,9 +3,10 @@ use mathlib.Core.Path.{◌≡◌, ap, ◌∙◌}
 use Prim.Native.Nat.{◌*◌, ◌≤◌}
 use native.Mathlib.Omega.{arith}
 use Rattle.frame.specs.Run.{State, step}
-use Rattle.store.specs.Figures.{sheet_of}
+use Rattle.table.specs.Problem.{sheet_for}
 use Rattle.run.specs.Run.{state_of}
 use Rattle.step.proofs.Store.{rests}
+use Rattle.table.proofs.Cells.{width_small}
 use Rattle.moves.specs.Moves.{moved, move_of}
 use Rattle.moves.proofs.Reach.{moved_time, moved_energy}
 use Rattle.moves.proofs.Figures.{move_none, move_some, move_small, counts}
@@ -31,44 +32,48 @@ some_move g i p j r m l up rows u v = move_some g i p j _ _ (ap (λ (q : State).
 pub next_job-b-requires : goal.next_job-b-requires
 next_job-b-requires c =
     let a = c.requires in
-    let ok = a.framed.axes.ranges in
+    let f = c.args.problem.now.framed in
+    let ok = f.axes.ranges in
     let z = c.fresh.ensures in
-    rests a.framed.stored _ _ ok (omega (arith, ap (λ (q : State). q.done) z, a.job, ok.jobs.high)) (omega (arith, ap (λ (q : State). q.level) z, a.left, ok.levels.high)) (omega (arith, a.entered, ok.levels.high)) (omega (arith, ap (λ (q : State). q.time) z)) (omega (arith, ap (λ (q : State). q.energy) z)) (omega (arith, ap (λ (q : State). q.temperature) z))
+    rests f.stored _ _ ok (omega (arith, ap (λ (q : State). q.done) z, a.job, ok.jobs.high)) (omega (arith, ap (λ (q : State). q.level) z, a.left, ok.levels.high)) (omega (arith, a.entered, ok.levels.high)) (omega (arith, ap (λ (q : State). q.time) z)) (omega (arith, ap (λ (q : State). q.energy) z)) (omega (arith, ap (λ (q : State). q.temperature) z))
 
 pub overflow_cast-time : goal.overflow_cast-time
 overflow_cast-time c =
-    let m = moves (sheet_of c.args.f.head c.args.store.now) c.args.i c.args.p c.args.j (c.next_job-b.ensures _ c.requires.framed.stored) c.fresh.ensures in
-    omega (arith, ap (λ (q : State). q.time) m, moved_time _ c.requires.framed.axes.ranges c.args.i c.args.p c.args.j)
+    let m = moves (sheet_for c.args.problem.now) c.args.i c.args.p c.args.j (c.next_job-b.ensures _ c.args.problem.now.framed.stored) c.fresh.ensures in
+    omega (arith, ap (λ (q : State). q.time) m, moved_time _ c.args.problem.now.framed.axes.ranges c.args.i c.args.p c.args.j)
 
 pub returns-then-f-b : goal.returns-then-f-b
 returns-then-f-b c =
-    let m = moves (sheet_of c.args.f.head c.args.store.now) c.args.i c.args.p c.args.j (c.next_job-b.ensures _ c.requires.framed.stored) c.fresh.ensures in
-    move_none c.requires.framed.axes _ _ _ _ _ (ap (λ (q : State). q.energy) m) (ap (λ (q : State). q.time) m) c.if-f-b.true
+    let m = moves (sheet_for c.args.problem.now) c.args.i c.args.p c.args.j (c.next_job-b.ensures _ c.args.problem.now.framed.stored) c.fresh.ensures in
+    move_none c.args.problem.now.framed.axes _ _ _ _ _ (ap (λ (q : State). q.energy) m) (ap (λ (q : State). q.time) m) c.if-f-b.true
+
+pub overflow_cast-width : goal.overflow_cast-width
+overflow_cast-width c = omega (arith, width_small c.args.problem.now.framed.axes)
 
 pub ceil_div-up-requires : goal.ceil_div-up-requires
 ceil_div-up-requires c =
-    let g = c.requires.framed.axes in
-    let m = moves (sheet_of c.args.f.head c.args.store.now) c.args.i c.args.p c.args.j (c.next_job-b.ensures _ c.requires.framed.stored) c.fresh.ensures in
+    let g = c.args.problem.now.framed.axes in
+    let m = moves (sheet_for c.args.problem.now) c.args.i c.args.p c.args.j (c.next_job-b.ensures _ c.args.problem.now.framed.stored) c.fresh.ensures in
     let e = moved_energy _ g.ranges c.args.i c.args.p c.args.j in
     record { value = omega (arith, ap (λ (q : State). q.energy) m, e); step = omega (arith, g.energy_step, g.ranges.energy_step.low); step_most = omega (arith, g.energy_step, g.ranges.energy_step.high) }
 
 pub lawful_rows-rows-requires : goal.lawful_rows-rows-requires
-lawful_rows-rows-requires c = counts c.requires.framed.axes _ _ c.if-f-b.false c.ceil_div-up.ensures
+lawful_rows-rows-requires c = counts c.args.problem.now.framed.axes _ _ c.if-f-b.false c.ceil_div-up.ensures
 
 pub overflow_mul-shift : goal.overflow_mul-shift
 overflow_mul-shift c =
-    let m = moves (sheet_of c.args.f.head c.args.store.now) c.args.i c.args.p c.args.j (c.next_job-b.ensures _ c.requires.framed.stored) c.fresh.ensures in
-    let w = some_move c.requires.framed.axes c.args.i c.args.p c.args.j _ m c.if-f-b.false _ _ c.ceil_div-up.ensures c.lawful_rows-rows.ensures in
-    omega (arith, move_small c.requires.framed.axes c.args.i c.args.p c.args.j _ w)
+    let m = moves (sheet_for c.args.problem.now) c.args.i c.args.p c.args.j (c.next_job-b.ensures _ c.args.problem.now.framed.stored) c.fresh.ensures in
+    let w = some_move c.args.problem.now.framed.axes c.args.i c.args.p c.args.j _ m c.if-f-b.false _ _ c.ceil_div-up.ensures c.lawful_rows-rows.ensures in
+    omega (arith, move_small c.args.problem.now.framed.axes c.args.i c.args.p c.args.j _ w)
 
 pub overflow_mul-reach : goal.overflow_mul-reach
 overflow_mul-reach c =
-    let m = moves (sheet_of c.args.f.head c.args.store.now) c.args.i c.args.p c.args.j (c.next_job-b.ensures _ c.requires.framed.stored) c.fresh.ensures in
-    let w = some_move c.requires.framed.axes c.args.i c.args.p c.args.j _ m c.if-f-b.false _ _ c.ceil_div-up.ensures c.lawful_rows-rows.ensures in
-    omega (arith, move_small c.requires.framed.axes c.args.i c.args.p c.args.j _ w)
+    let m = moves (sheet_for c.args.problem.now) c.args.i c.args.p c.args.j (c.next_job-b.ensures _ c.args.problem.now.framed.stored) c.fresh.ensures in
+    let w = some_move c.args.problem.now.framed.axes c.args.i c.args.p c.args.j _ m c.if-f-b.false _ _ c.ceil_div-up.ensures c.lawful_rows-rows.ensures in
+    omega (arith, move_small c.args.problem.now.framed.axes c.args.i c.args.p c.args.j _ w)
 
 pub returns : goal.returns
 returns c =
-    let m = moves (sheet_of c.args.f.head c.args.store.now) c.args.i c.args.p c.args.j (c.next_job-b.ensures _ c.requires.framed.stored) c.fresh.ensures in
-    let w = some_move c.requires.framed.axes c.args.i c.args.p c.args.j _ m c.if-f-b.false _ _ c.ceil_div-up.ensures c.lawful_rows-rows.ensures in
+    let m = moves (sheet_for c.args.problem.now) c.args.i c.args.p c.args.j (c.next_job-b.ensures _ c.args.problem.now.framed.stored) c.fresh.ensures in
+    let w = some_move c.args.problem.now.framed.axes c.args.i c.args.p c.args.j _ m c.if-f-b.false _ _ c.ceil_div-up.ensures c.lawful_rows-rows.ensures in
     w

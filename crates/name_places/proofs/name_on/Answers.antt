@@ -1,16 +1,14 @@
--- `name_on` hands back the bytes of the line behind its first byte 9, by the contract of `find`; none where it has no byte 9.
-use mathlib.Core.Path.{sym, ◌∙◌}
+-- `name_on` hands back the bytes of the next line behind its first byte 9, by the contract of `find`.
 use native.Mathlib.Omega.{arith}
-use Rattle.text.specs.Text.{part}
-use Rattle.text.proofs.Text.{part_none}
-use Rattle.name_places.proofs.Place.{name_part}
+use lib.ListN.{length-take}
+use Rattle.text.specs.Text.{until}
+use Rattle.text.proofs.Text.{before_le}
+use Rattle.name_places.proofs.Place.{behind_first}
 use Rattle.name_places.proofs.name_on.Goals as goal
 
-pub returns-then-t-e : goal.returns-then-t-e
-returns-then-t-e c =
-    let z = c.scan_line-l.ensures in
-    sym (name_part _ z _ c.find-t.ensures.0 ∙ part_none _ _ _ (omega (arith, c.if-t-e.true)))
+pub slice_bounds-line-end : goal.slice_bounds-line-end
+slice_bounds-line-end c = let h = before_le 10 c.args.t.now in simp length-take (omega (arith, c.find.ensures))
 
 pub returns : goal.returns
-unfolding part
-returns c = sym (name_part _ c.scan_line-l.ensures _ c.find-t.ensures.0)
+unfolding until
+returns c = rw (c.behind.ensures, c.find-2.ensures, c.find.ensures) (behind_first 9 _)

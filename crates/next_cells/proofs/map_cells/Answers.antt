@@ -1,14 +1,13 @@
 -- Each temperature cell has the cell after the job, by an invariant over the cells written.
 use mathlib.Core.Path.{◌≡◌, refl, ap, ◌∙◌}
 use Prim.Native.Nat.{ℕ, ◌*◌, ◌≤◌}
-use native.Mathlib.Nat.{div-le_self}
 use native.Mathlib.Omega.{arith}
 use Rattle.thermal.specs.Thermal.{raised_temperature_max}
 use Rattle.frame.specs.Run.{State, step}
 use Rattle.step.proofs.Store.{rests}
 use Rattle.table.proofs.Cells.{cell_temperature, width_small}
-use Rattle.spans.proofs.Stepping.{spans_none, spans_more, spans_all}
-use Rattle.store.specs.Figures.{sheet_of}
+use Rattle.spans.proofs.Stepping.{spans_more}
+use Rattle.table.specs.Problem.{sheet_for}
 use Rattle.next_cells.specs.Next.{warmed}
 use Rattle.next_cells.proofs.Warming.{cell_is}
 use Rattle.frame.specs.Sheet.{Sheet}
@@ -23,38 +22,31 @@ warm_small {s} {f} {b} g l = omega (arith, ap (λ (h : ℕ). b * h) g.temperatur
 
 -- The temperature after the job, by the definitions.
 warms : (c : goal.After-cell_of) → let a = c.args in
-    c.next_job-c.result.temperature ≡ warmed (sheet_of a.f.head a.store.now) a.i a.j (c.loop-b.b * (sheet_of a.f.head a.store.now).temperature_step)
+    c.next_job-after.result.temperature ≡ warmed (sheet_for a.problem.now) a.i a.j (c.loop-b.b * (sheet_for a.problem.now).temperature_step)
 warms c =
-    let a = c in
-    let s = sheet_of a.args.f.head a.args.store.now in
-    ap (λ (q : State). q.temperature) (c.next_job-c.ensures s a.requires.framed.stored ∙ ap (λ (q : State). step s q a.args.j) c.fresh.ensures)
-    ∙ ap (λ (h : ℕ). warmed s a.args.i a.args.j (c.loop-b.b * h)) a.requires.framed.axes.temperature_step
+    let a = c.args in
+    let s = sheet_for a.problem.now in
+    let g = a.problem.now.framed in
+    ap (λ (q : State). q.temperature) (c.next_job-after.ensures s g.stored ∙ ap (λ (q : State). step s q a.j) c.fresh-run.ensures)
+    ∙ ap (λ (h : ℕ). warmed s a.i a.j (c.loop-b.b * h)) g.axes.temperature_step
 
 pub nonzero_div-multiplier : goal.nonzero_div-multiplier
-nonzero_div-multiplier c = let g = c.requires.framed.axes in omega (arith, g.temperature_step, g.ranges.temperature_step.low)
-
-pub overflow_cast-multiplier : goal.overflow_cast-multiplier
-overflow_cast-multiplier c = omega (arith, div-le_self 4294967295 c.args.f.head.temperature_step)
-
-pub overflow_add-multiplier : goal.overflow_add-multiplier
-overflow_add-multiplier c = omega (arith, div-le_self 4294967295 c.args.f.head.temperature_step)
-
-pub loop-b-init : goal.loop-b-init
-loop-b-init c = record { most = omega arith; written = spans_none _ _ _ }
+nonzero_div-multiplier c = let g = c.args.problem.now.framed.axes in omega (arith, g.temperature_step, g.ranges.temperature_step.low)
 
 pub overflow_mul-b : goal.overflow_mul-b
-overflow_mul-b c = omega (arith, warm_small c.requires.framed.axes c.loop-b-test.true)
+overflow_mul-b c = omega (arith, warm_small c.args.problem.now.framed.axes c.loop-b-test.true)
 
-pub next_job-c-requires : goal.next_job-c-requires
-next_job-c-requires c =
+pub next_job-after-requires : goal.next_job-after-requires
+next_job-after-requires c =
     let a = c.requires in
-    let ok = a.framed.axes.ranges in
-    let z = c.fresh.ensures in
-    rests a.framed.stored _ _ ok (omega (arith, ap (λ (q : State). q.done) z, a.job, ok.jobs.high)) (omega (arith, ap (λ (q : State). q.level) z, a.level, ok.levels.high)) (omega (arith, a.level, ok.levels.high)) (omega (arith, ap (λ (q : State). q.time) z)) (omega (arith, ap (λ (q : State). q.energy) z)) (omega (arith, ap (λ (q : State). q.temperature) z, warm_small c.requires.framed.axes c.loop-b-test.true))
+    let g = c.args.problem.now.framed in
+    let ok = g.axes.ranges in
+    let z = c.fresh-run.ensures in
+    rests g.stored _ _ ok (omega (arith, ap (λ (q : State). q.done) z, a.job, ok.jobs.high)) (omega (arith, ap (λ (q : State). q.level) z, a.level, ok.levels.high)) (omega (arith, a.level, ok.levels.high)) (omega (arith, ap (λ (q : State). q.time) z)) (omega (arith, ap (λ (q : State). q.energy) z)) (omega (arith, ap (λ (q : State). q.temperature) z, warm_small g.axes c.loop-b-test.true))
 
 pub cell_of-requires : goal.cell_of-requires
 cell_of-requires c =
-    let g = c.requires.framed.axes in
+    let g = c.args.problem.now.framed.axes in
     record {
       limit = omega (arith, g.temperature_limit, g.ranges.temperature_limit);
       step = omega (arith, g.temperature_step, g.ranges.temperature_step.low);
@@ -63,32 +55,8 @@ cell_of-requires c =
       scaled = refl;
     }
 
-pub overflow_add-table : goal.overflow_add-table
-overflow_add-table c = omega (arith, width_small c.requires.framed.axes, c.loop-b.invariant, c.loop-b-test.true, c.requires, c.requires.framed.axes.temperature_count)
-
-pub offset_bounds-table-at : goal.offset_bounds-table-at
-offset_bounds-table-at c = omega (arith, width_small c.requires.framed.axes, c.loop-b.invariant, c.loop-b-test.true, c.requires, c.requires.framed.axes.temperature_count)
-
-pub bounds-table-at : goal.bounds-table-at
-bounds-table-at c = omega (arith, c.loop-b.invariant.written.long, c.loop-b.invariant, c.loop-b-test.true, c.requires, c.requires.framed.axes.temperature_count)
-
-pub overflow_add-b : goal.overflow_add-b
-overflow_add-b c = omega (arith, width_small c.requires.framed.axes, c.loop-b-test.true)
-
-pub loop-b-smaller : goal.loop-b-smaller
-loop-b-smaller c = omega (arith, c.loop-b-test.true)
-
 pub loop-b-preserved : goal.loop-b-preserved
 loop-b-preserved c =
-    let a = c in
+    let g = c.args.problem.now.framed.axes in
     let l = c.loop-b in
-    record { most = omega (arith, c.loop-b-test.true); written = spans_more l.invariant.written c.loop-b-test.true (omega (arith, a.requires, a.requires.framed.axes.temperature_count)) _ (cell_is a.requires.framed.axes _ _ _ _ _ (warms c) c.cell_of.ensures) }
-
-pub shape_of-table : goal.shape_of-table
-shape_of-table c = c.loop-b.invariant.written.long
-
-pub returns : goal.returns
-returns c =
-    let a = c in
-    let l = c.loop-b in
-    spans_all l.invariant.written (omega (arith, l.invariant.most, a.requires.framed.axes.temperature_count)) (omega (arith, c.loop-b-test.false, a.requires.framed.axes.temperature_count))
+    spans_more l.invariant c.loop-b-test.true (omega (arith, c.requires, g.temperature_count)) _ (cell_is g _ _ _ _ _ (warms c) c.cell_of.ensures)

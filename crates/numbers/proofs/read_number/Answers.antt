@@ -1,54 +1,58 @@
 -- `read_number` gives what the definition says of the field: `Digits` holds of what was passed, and each way out is one of its laws.
-use mathlib.Core.Path.{◌≡◌, refl, sym}
+use mathlib.Core.Path.{◌≡◌, refl}
 use mathlib.Core.Logic.{inl, inr}
 use mathlib.Core.List.{[]}
 use native.Mathlib.Omega.{arith}
+use lib.ListN.{drop}
 use borrow.Author.Rules.{rules}
-use Rattle.text.specs.Text.{until, part}
-use Rattle.numbers.proofs.Number.{digits_none, digits_value, digits_zero, digits_low, digits_high, digits_long, digits_more, digits_empty, ends_line, ends_field, field_other, field_number}
-use Rattle.numbers.proofs.read_number.Goals.{else-loop-i-test, then-loop-i-test+then-b-eq-TAB, then-i-from-gt1+else-s-from-eq48, else-i-from-gt1}
+use Rattle.text.specs.Text.{until}
+use Rattle.numbers.proofs.Digits.{digits_none, digits_value, digits_zero, digits_low, digits_high, digits_long, digits_more, digits_empty, ends_line, ends_field, next_other, next_found}
+use Rattle.numbers.proofs.read_number.Goals.{then-b-lt48-via-then-b-lt48, then-b-lt48-via-else-b-lt48+then-b-gt57, then-b-lt48-via-else-b-lt48+else-b-gt57+then-digits-ge-DIGITS_MAX, else-loop-b-test, then-loop-b-test+then-b-eq-TAB, else-digits-gt1-via-then-digits-gt1+else-t-eq48, else-digits-gt1-via-else-digits-gt1}
 use Rattle.numbers.proofs.read_number.Goals as goal
 
-pub loop-i-init : goal.loop-i-init
-loop-i-init c = digits_none _ _ _ _ (search rules) (search rules)
+pub loop-b-init : goal.loop-b-init
+loop-b-init c = (digits_none _ _, refl)
+
+pub overflow_mul-value : goal.overflow_mul-value
+overflow_mul-value c = let z = c.loop-b.invariant.0 in omega (arith, digits_value z 10 z.few)
+
+pub overflow_add-value : goal.overflow_add-value
+overflow_add-value c = let z = c.loop-b.invariant.0 in omega (arith, digits_value z 10 z.few)
 
 pub returns-then-b-lt48 : goal.returns-then-b-lt48
-returns-then-b-lt48 c = sym (field_other _ _ (digits_low _ _ _ _ _ _ c.loop-i.invariant (search rules) (search rules) (search rules)))
+returns-then-b-lt48 c =
+    let z = c.loop-b.invariant.0 in
+    next_other _ (elim c.then-b-lt48.branch [
+      | then-b-lt48-via-then-b-lt48 w ↦ digits_low z (search rules) (search rules) (search rules)
+      | then-b-lt48-via-else-b-lt48+then-b-gt57 w ↦ digits_high z (search rules) (search rules) (search rules)
+      | then-b-lt48-via-else-b-lt48+else-b-gt57+then-digits-ge-DIGITS_MAX w ↦ digits_long z (search rules) (search rules) (omega (arith, w.if-digits-ge-DIGITS_MAX.true, c.loop-b.invariant.1))
+    ])
 
-pub returns-then-b-gt57 : goal.returns-then-b-gt57
-returns-then-b-gt57 c = sym (field_other _ _ (digits_high _ _ _ _ _ _ c.loop-i.invariant (search rules) (search rules) (search rules) (search rules)))
+pub loop-b-preserved : goal.loop-b-preserved
+loop-b-preserved c =
+    let e = c.loop-b.invariant.1 in
+    (digits_more c.loop-b.invariant.0 (search rules) (search rules) _ refl (search rules) (search rules) (omega (arith, e, c.if-digits-ge-DIGITS_MAX.false)), omega (arith, e))
 
-pub returns-then-i-from-ge-DIGITS_MAX : goal.returns-then-i-from-ge-DIGITS_MAX
-returns-then-i-from-ge-DIGITS_MAX c = sym (field_other _ _ (digits_long _ _ _ _ _ _ c.loop-i.invariant (search rules) (search rules) (search rules)))
-
-pub overflow_mul-v : goal.overflow_mul-v
-overflow_mul-v c = let z = c.loop-i.invariant in omega (arith, digits_value _ _ _ _ _ _ z 10 z.few)
-
-pub overflow_add-v : goal.overflow_add-v
-overflow_add-v c = let z = c.loop-i.invariant in omega (arith, digits_value _ _ _ _ _ _ z 10 z.few)
-
-pub loop-i-preserved : goal.loop-i-preserved
-loop-i-preserved c = digits_more _ _ _ _ _ _ c.loop-i.invariant (search rules) (search rules) _ refl (search rules) (search rules) (search rules)
-
-pub returns-then-i-from : goal.returns-then-i-from
-returns-then-i-from c =
-    let e : until 9 (part c.loop-i.i c.args.to c.args.s.now) ≡ [] = elim c.loop-i-test.branch [
-      | else-loop-i-test w ↦ ends_line _ _ _ _ (search rules)
-      | then-loop-i-test+then-b-eq-TAB w ↦ ends_field _ _ _ _ (search rules) (search rules) (search rules)
+pub returns-then-digits-eq0 : goal.returns-then-digits-eq0
+returns-then-digits-eq0 c =
+    let e : until 9 (drop c.loop-b.b-index c.args.t.now) ≡ [] = elim c.loop-b-test.branch [
+      | else-loop-b-test w ↦ ends_line 9 c.args.t.now c.loop-b.b-index (search rules)
+      | then-loop-b-test+then-b-eq-TAB w ↦ ends_field 9 c.args.t.now c.loop-b.b-index (search rules) (search rules)
     ] in
-    sym (field_other _ _ (digits_empty _ _ _ _ _ _ c.loop-i.invariant e (search rules)))
+    next_other _ (digits_empty c.loop-b.invariant.0 e (omega (arith, c.loop-b.invariant.1, c.if-digits-eq0.true)))
 
-pub returns-then-s-from-eq48 : goal.returns-then-s-from-eq48
-returns-then-s-from-eq48 c = sym (field_other _ _ (digits_zero _ _ _ _ _ _ c.loop-i.invariant (search rules) (search rules)))
+pub returns-then-t-eq48 : goal.returns-then-t-eq48
+returns-then-t-eq48 c = next_other _ (digits_zero c.loop-b.invariant.0 (omega (arith, c.loop-b.invariant.1, c.if-digits-gt1.true)) c.if-t-eq48.true)
 
 pub returns : goal.returns
 returns c =
-    let e : until 9 (part c.loop-i.i c.args.to c.args.s.now) ≡ [] = elim c.loop-i-test.branch [
-      | else-loop-i-test w ↦ ends_line _ _ _ _ (search rules)
-      | then-loop-i-test+then-b-eq-TAB w ↦ ends_field _ _ _ _ (search rules) (search rules) (search rules)
+    let q = c.loop-b.invariant.1 in
+    let e : until 9 (drop c.loop-b.b-index c.args.t.now) ≡ [] = elim c.loop-b-test.branch [
+      | else-loop-b-test w ↦ ends_line 9 c.args.t.now c.loop-b.b-index (search rules)
+      | then-loop-b-test+then-b-eq-TAB w ↦ ends_field 9 c.args.t.now c.loop-b.b-index (search rules) (search rules)
     ] in
-    sym (field_number _ _ _ _ _ c.loop-i.invariant e (search rules)
-    (elim c.if-i-from-gt1.branch [
-      | then-i-from-gt1+else-s-from-eq48 w ↦ inr w.if-s-from-eq48.false
-      | else-i-from-gt1 w ↦ inl (omega arith)
-    ]))
+    next_found c.loop-b.invariant.0 e (omega (arith, q, c.if-digits-eq0.false))
+    (elim c.else-digits-gt1.branch [
+      | else-digits-gt1-via-then-digits-gt1+else-t-eq48 w ↦ inr w.if-t-eq48.false
+      | else-digits-gt1-via-else-digits-gt1 w ↦ inl (omega (arith, q, w.if-digits-gt1.false))
+    ]) _ (rw q at c.behind.ensures)

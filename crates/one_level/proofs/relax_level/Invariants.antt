@@ -5,7 +5,7 @@ use lib.ListN.{length}
 use Rattle.store.specs.Store.{levels_max}
 use Rattle.word.specs.Word.{settled}
 use Rattle.spans.specs.Spans.{Spans}
-use Rattle.open_ways.specs.Moves.{relaxed_at}
+use Rattle.open_ways.specs.Layer.{relaxed}
 use Rattle.one_level.specs.Level.{part_size}
 use Rattle.one_level.proofs.relax_level.Given as goal
 
@@ -14,9 +14,8 @@ invariant-loop-y l =
     record {
       low : l.x ≤ l.y;
       most : l.y ≤ l.x + l.n;
-      froms_long : length l.froms ≡ levels_max;
-      costs_long : length l.costs ≡ levels_max;
-      done : Spans l.initial.part l.part (l.p * part_size) (l.y - l.x) (λ (q : ℕ). settled (relaxed_at l.shifts l.reaches l.times l.table l.levels l.cells l.at l.p l.levels (l.x + q)));
+      long : length l.ways ≡ levels_max;
+      done : Spans l.initial.part l.part (l.p * part_size) (l.y - l.x) (λ (q : ℕ). settled (relaxed l.layer l.table l.p (l.x + q)));
     }
 
 abbrev pub decreases-loop-y : goal.decreases-loop-y

@@ -13,4 +13,4 @@ put_job_line-requires c =
 
 pub returns : goal.returns
 returns c = let v = c.put_job_line.ensures in
-    record { wrote = named_line _ _ _ _ _ _ _ _ _ _ c.name_on-name.ensures v.wrote; upper_bound = v.upper_bound }
+    record { wrote = named_line _ _ _ _ _ _ _ _ c.name_on-name.ensures v.wrote; upper_bound = v.upper_bound }

@@ -1,19 +1,16 @@
 -- A part of every level more with each turn of the loop: what is still to be read stands behind what is written, and is as it was.
 use mathlib.Core.Path.{◌≡◌}
-use Prim.Native.Nat.{ℕ, ◌-◌, ◌≤◌}
+use Prim.Native.Nat.{ℕ, ◌≤◌}
 use lib.ListN.{length}
 use Rattle.word.specs.Word.{settled}
-use Rattle.open_ways.specs.Moves.{relaxed_at}
+use Rattle.open_ways.specs.Layer.{relaxed}
 use Rattle.relax.specs.Levels.{Levels}
 use Rattle.relax.proofs.relax_words.Given as goal
 
 abbrev pub invariant-loop-x : goal.invariant-loop-x
 invariant-loop-x l =
     record {
-      most : l.x ≤ l.cells;
+      most : l.x ≤ l.layer.cells;
       part_long : length l.part ≡ length l.initial.part;
-      words : Levels l.initial.table l.table l.at l.levels l.cells 0 l.x (λ (p y : ℕ). settled (relaxed_at l.shifts l.reaches l.times l.initial.table l.levels l.cells l.at p l.levels y));
+      words : Levels l.initial.table l.table l.layer.at l.layer.levels l.layer.cells 0 l.x (λ (p y : ℕ). settled (relaxed l.layer l.initial.table p y));
     }
-
-abbrev pub decreases-loop-x : goal.decreases-loop-x
-decreases-loop-x l = l.cells - l.x

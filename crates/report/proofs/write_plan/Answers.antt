@@ -1,23 +1,26 @@
--- The four ways out, by the laws of `proofs/Told.antt`: a refusal, a part that is too short, no plan, a plan.
-use mathlib.Core.Path.{◌≡◌, refl, ap, ◌∙◌}
-use native.Mathlib.Decide.{dec_lt}
-use native.Mathlib.Omega.{arith}
-use lib.ListN.{replicate}
-use Prim.Native.Nat.{◌≤◌, ◌<◌}
-use Rattle.store.specs.Store.{jobs_max}
-use Rattle.sheet.specs.Reading.{SheetRead}
-use Rattle.sheet.proofs.Ranges.{reading_ranges}
-use Rattle.reply.specs.Answer.{Answers}
-use Rattle.demands.proofs.Order.{answers_read}
-use Rattle.report.specs.Report.{table_words, answer_in}
-use Rattle.report.proofs.Told.{read_wrote, read_jobs, read_handed, read_few, Told, answer_told, told_refused, told_narrow, told_none, told_read, told_levels, told_plan}
+-- The ways out, by the laws of `proofs/Told.antt`: a refusal, a part that is too short, no plan, a plan.
+use mathlib.Core.Path.{◌≡◌, refl, sym, ap}
 use mathlib.Core.List.{List}
-use Prim.Native.Nat.{ℕ}
-use lib.ListN.{length}
-use Rattle.sheet.specs.Reading.{reading_of}
-use Rattle.reply.specs.declared.Reply.{Reply}
+use native.Mathlib.Omega.{arith}
+use lib.ListN.{length, replicate}
+use Prim.Native.Nat.{ℕ, ◌≤◌, ◌<◌}
+use Rattle.std.specs.Prelude.{Some, Result, Ok, Err}
+use Rattle.store.specs.declared.Head.{Head}
+use Rattle.refusal.specs.declared.Refusal.{Refusal}
+use Rattle.refusal.specs.declared.Refusal.TheVariants.{NoPlan}
+use Rattle.std.proofs.lemmas.Result.{err_from_is_err_and}
+use Rattle.store.specs.Store.{jobs_max}
+use Rattle.refusal.specs.Code.{number_of}
+use Rattle.refusal.proofs.Apart.{number_bounds, ten_only}
+use Rattle.sheet.specs.Reading.{SheetRead, read_in, reading_of}
+use Rattle.sheet.proofs.Whole.{read_on}
+use Rattle.sheet.proofs.Ranges.{reading_ranges}
+use Rattle.reply.specs.Reply.{Reply, reply_by}
+use Rattle.reply.specs.Answer.{Answers}
 use Rattle.demands.specs.Order.{answer_to}
-use Rattle.report.proofs.write_plan.Goals.{then-refusal-gt0+else-refusal-lt10, else-refusal-gt0}
+use Rattle.demands.proofs.Order.{answers_read}
+use Rattle.report.specs.Report.{table_words, answer_in, report_by, report_of, text_after}
+use Rattle.report.proofs.Told.{answer_away, read_wrote, read_jobs, read_few, Told, answer_told, told_refused, told_narrow, told_away, told_read, told_levels, told_plan}
 use Rattle.report.proofs.write_plan.Goals as goal
 
 -- The planner's answer, with the table and the part inside the call.
@@ -31,58 +34,84 @@ told : (s : List ℕ) → Told s (answer_in s)
 unfolding answer_in
 told s = answer_told _ table_words
 
--- What is left where it is not 10 or more is a plan.
-zero_left : (n : ℕ) → (0 < n → 10 ≤ n) → n ≤ 9 → n ≡ 0
-zero_left n other h =
-    elim (dec_lt 0 n) [
-      | yes l ↦ absurd (omega (arith, h, other l))
-      | no l ↦ omega (arith, l)
-    ]
+-- A sheet that is refused is told so.
+away : (s : List ℕ) {r : Result Head Refusal} (f : Refusal) (st text : List ℕ) → read_in r st ≡ reading_of s → r ≡ Err f →
+    (report_by (Err f) ≡ report_of s (length text) (answer_in s)) × (text ≡ text_after s (answer_in s) text)
+away s f st text e m =
+    let q : read_in (Err f) st ≡ reading_of s = rw m at e in
+    rw (answer_away s f (ap (λ (x : SheetRead). x.refusal) (sym q))) (refl, refl)
 
-pub plan_read-p-requires : goal.plan_read-p-requires
-plan_read-p-requires c = reading_ranges _ _ _ c.read-r.ensures
+pub returns-in_err-head : goal.returns-in_err-head
+returns-in_err-head c =
+    let p = err_from_is_err_and c.from_residual.result c.from_residual.ensures.1 in
+    let m = away c.args.s.now c.in_err-head.field-0.0 _ c.args.text.now c.read.ensures c.in_err-head.was in
+    rw (p.1, p.2) (record { value = m.0; text_after = m.1; length_le_text_least = tt })
 
-pub returns-then-refusal-lt10 : goal.returns-then-refusal-lt10
-returns-then-refusal-lt10 c =
-    let v = answered _ _ _ _ _ c.read-r.ensures c.plan_read-p.ensures in
-    let m = told_refused _ _ _ _ _ _ _ (answer_in _) (told _) v c.if-refusal-gt0.true c.if-refusal-lt10.true _ c.refuse.ensures in
-    record { value = m.0; text_after = m.1.0; length_le_text_least = m.1.1 }
+pub plan_read-plan-requires : goal.plan_read-plan-requires
+plan_read-plan-requires c = reading_ranges _ _ _ c.read.ensures _ c.in_ok-head.was
 
-pub returns-then-text-lt-TEXT_LEAST : goal.returns-then-text-lt-TEXT_LEAST
-returns-then-text-lt-TEXT_LEAST c =
-    let v = answered _ _ _ _ _ c.read-r.ensures c.plan_read-p.ensures in
-    let m = told_narrow _ _ _ _ _ _ _ (λ h. grind arith) (answer_in _) (told _) v c.if-text-lt-TEXT_LEAST.true _ c.refuse-then-text-lt-TEXT_LEAST.ensures in
-    record { value = m.0; text_after = m.1.0; length_le_text_least = m.1.1 }
+pub returns-in-Ok-clause-value : goal.returns-in-Ok-clause-value
+returns-in-Ok-clause-value c =
+    let v = answered _ _ _ _ _ (read_on _ _ c.read.ensures c.in_ok-head.was) c.plan_read-plan.ensures in
+    let w = rw c.in-Ok.is at v in
+    (told_narrow _ _ _ _ _ _ (reply_by (Ok c.in-Ok.field-0)) (λ h. absurd (omega (arith, h))) (answer_in _) (told _) w c.if-text-lt-TEXT_LEAST.true _ refl).0
 
-pub returns-then-refusal-gt9 : goal.returns-then-refusal-gt9
-returns-then-refusal-gt9 c =
-    let v = answered _ _ _ _ _ c.read-r.ensures c.plan_read-p.ensures in
-    let m = told_none _ _ _ _ _ _ _ (λ h. grind arith) c.if-text-lt-TEXT_LEAST.false (answer_in _) (told _) v (omega (arith, c.if-refusal-gt9.true)) _ c.refuse-then-refusal-gt9.ensures in
-    record { value = m.0; text_after = m.1.0; length_le_text_least = m.1.1 }
+pub returns-in-NoPlan-clause-value : goal.returns-in-NoPlan-clause-value
+returns-in-NoPlan-clause-value c =
+    let f = c.in-Err.f in
+    let v = answered _ _ _ _ _ (read_on _ _ c.read.ensures c.in_ok-head.was) c.plan_read-plan.ensures in
+    let w = rw c.in-Err.is at v in
+    let ten : number_of f ≡ 10 = ap (λ (g : Refusal). number_of g) c.in-NoPlan.is in
+    (told_narrow _ _ _ _ _ _ (reply_by (Err f)) (λ h. omega (arith, ten)) (answer_in _) (told _) w c.if-text-lt-TEXT_LEAST.true _ refl).0
 
-pub put_plan-n-requires : goal.put_plan-n-requires
-put_plan-n-requires c =
-    let e = c.read-r.ensures in
-    let z = zero_left c.plan_read-p.result.refusal (λ h. grind arith) c.if-refusal-gt9.false in
-    let s = c.args.s.now in
-    let w = told s in
-    let v = answered _ _ _ _ _ e c.plan_read-p.ensures in
-    let m = told_read s c.args.text.now _ _ _ _ _ z (answer_in _) w v in
-    let r = ap (λ (x : SheetRead). x.refusal) e ∙ m in
+pub returns-in_default : goal.returns-in_default
+returns-in_default c =
+    let f = c.in-Err.f in
+    let v = answered _ _ _ _ _ (read_on _ _ c.read.ensures c.in_ok-head.was) c.plan_read-plan.ensures in
+    let w = rw c.in-Err.is at v in
+    let m = told_refused _ _ _ _ _ _ (reply_by (Err f)) (answer_in _) w (number_bounds f).0 (λ e. c.in_default.not-NoPlan (ten_only f e)) _ refl in
+    record { value = m.0; text_after = m.1; length_le_text_least = tt }
+
+pub returns-in_err-plan-clause-value : goal.returns-in_err-plan-clause-value
+returns-in_err-plan-clause-value c =
+    let p = err_from_is_err_and c.from_residual-in_err-plan.result c.from_residual-in_err-plan.ensures.1 in
+    let f = c.in_err-plan.field-0.0 in
+    let v = answered _ _ _ _ _ (read_on _ _ c.read.ensures c.in_ok-head.was) c.plan_read-plan.ensures in
+    let w = rw c.in_err-plan.was at v in
+    rw (p.1, p.2) (told_away _ _ _ _ _ _ (reply_by (Err f)) c.if-text-lt-TEXT_LEAST.false (answer_in _) w (number_bounds f).0 _ refl).0
+
+pub returns-in_err-plan-clause-text_after : goal.returns-in_err-plan-clause-text_after
+returns-in_err-plan-clause-text_after c =
+    let f = c.in_err-plan.field-0.0 in
+    let v = answered _ _ _ _ _ (read_on _ _ c.read.ensures c.in_ok-head.was) c.plan_read-plan.ensures in
+    let w = rw c.in_err-plan.was at v in
+    (told_away _ _ _ _ _ _ (reply_by (Err f)) c.if-text-lt-TEXT_LEAST.false (answer_in _) w (number_bounds f).0 _ refl).1
+
+pub put_plan-requires : goal.put_plan-requires
+put_plan-requires c =
+    let e = read_on _ _ c.read.ensures c.in_ok-head.was in
+    let v = answered _ _ _ _ _ e c.plan_read-plan.ensures in
+    let w = rw c.in_ok-plan.was at v in
     record {
       handed =
           record {
-            read = read_handed s _ e r;
-            each = omega (arith, read_few s _ e r, c.plan_read-p.auto.part);
-            below = λ i h. told_levels s c.args.text.now _ _ _ _ _ z (answer_in _) w v i (omega (arith, h, read_jobs s _ e));
+            read = e;
+            each = omega (arith, read_few _ _ _ e, c.plan_read-plan.auto.part);
+            below = λ i h. told_levels _ c.args.text.now _ _ _ _ (reply_by (Ok c.in_ok-plan.field-0)) refl (answer_in _) (told _) w i (omega (arith, h, read_jobs _ _ _ e));
           };
       room = c.if-text-lt-TEXT_LEAST.false;
     }
 
-pub returns : goal.returns
-returns c =
-    let e = c.read-r.ensures in
-    let p = c.put_plan-n.ensures in
-    let v = answered _ _ _ _ _ e c.plan_read-p.ensures in
-    let m = told_plan _ _ _ _ _ _ _ (zero_left c.plan_read-p.result.refusal (λ h. grind arith) c.if-refusal-gt9.false) (answer_in _) (told _) v c.if-text-lt-TEXT_LEAST.false _ _ _ p.upper_bound (read_wrote _ _ e _ _ _ _ p.wrote) refl in
-    record { value = m.0; text_after = m.1.0; length_le_text_least = m.1.1 }
+pub returns-clause-value : goal.returns-clause-value
+returns-clause-value c =
+    let e = read_on _ _ c.read.ensures c.in_ok-head.was in
+    let v = answered _ _ _ _ _ e c.plan_read-plan.ensures in
+    let w = rw c.in_ok-plan.was at v in
+    (told_plan _ _ _ _ _ _ (reply_by (Ok c.in_ok-plan.field-0)) refl (answer_in _) (told _) w c.if-text-lt-TEXT_LEAST.false _ _ _ (read_wrote _ _ _ e _ _ _ _ c.put_plan.ensures.wrote) refl).0
+
+pub returns-clause-text_after : goal.returns-clause-text_after
+returns-clause-text_after c =
+    let e = read_on _ _ c.read.ensures c.in_ok-head.was in
+    let v = answered _ _ _ _ _ e c.plan_read-plan.ensures in
+    let w = rw c.in_ok-plan.was at v in
+    (told_plan _ _ _ _ _ _ (reply_by (Ok c.in_ok-plan.field-0)) refl (answer_in _) (told _) w c.if-text-lt-TEXT_LEAST.false _ _ _ (read_wrote _ _ _ e _ _ _ _ c.put_plan.ensures.wrote) refl).1

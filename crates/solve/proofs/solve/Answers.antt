@@ -1,57 +1,60 @@
 -- The reply by what was found: the figures of the exact run of the plan's levels from the same start, or 10.
-use mathlib.Core.Path.{ap}
-use native.Mathlib.Omega.{arith}
-use Rattle.store.specs.Figures.{sheet_of}
-use Rattle.step.specs.declared.Steady.{Steady}
-use Rattle.step.proofs.Store.{steady_in, read_stored}
-use Rattle.table.specs.Table.{Framed}
-use Rattle.solve.proofs.Finding.{plan_levels, answers_plan, answers_none}
-use mathlib.Core.Path.{◌≡◌}
+use mathlib.Core.Path.{◌≡◌, refl, ap}
+use mathlib.Core.Bool.{Bool}
 use mathlib.Core.List.{List}
-use Prim.Native.Nat.{ℕ}
-use Rattle.step.specs.Store.{steadies}
-use Rattle.table.specs.declared.Frame.{Frame}
-use Rattle.table.specs.Table.{Axes}
+use Prim.Native.Nat.{ℕ, ◌-◌, ◌<◌}
+use native.Mathlib.Omega.{arith}
+use lib.Seq.{get_or-take, length-take-le}
+use Rattle.std.specs.Prelude.{Ok}
+use Rattle.frame.specs.Run.{State}
+use Rattle.store.specs.declared.Head.{Head}
+use Rattle.store.specs.Figures.{sheet_of}
+use Rattle.step.proofs.Store.{steady_small}
+use Rattle.reply.specs.Reply.{reply_by}
+use Rattle.reply.specs.declared.Totals.{Totals}
+use Rattle.solve.specs.Solve.{Finds}
+use Rattle.solve.proofs.Finding.{plan_levels, answers_plan, answers_none}
 use Rattle.solve.proofs.solve.Goals as goal
 
--- The axes, the store and the steady-state temperatures are the sheet's.
-framed : {f : Frame} {store : List ℕ} {q : Steady} → Axes (sheet_of f.head store) f → q ≡ record { levels = steadies store f.head.resistance } →
-    Framed (sheet_of f.head store) f store q.levels
-framed {f} {store} g e = record { axes = g; stored = rw (ap (λ (q : Steady). q.levels) e) (read_stored f.head store) }
+-- The figures hold the store that was handed over, and so what is found is found for its sheet.
+same_sheet : (h : Head) {st store words words' bytes bytes' : List ℕ} {n : ℕ} {a : State} {b : Bool} → st ≡ store → Finds (sheet_of h st) n a words words' bytes bytes' b →
+    Finds (sheet_of h store) n a words words' bytes bytes' b
+same_sheet h e w = rw e at w
 
-pub steady_states-states-requires : goal.steady_states-states-requires
-steady_states-states-requires c = λ j h. let a = c in rw (steady_in a.args.f.head a.args.store.now j h) (a.requires.axes.ranges.steady j)
-
-pub find_plan-requires : goal.find_plan-requires
-find_plan-requires c = let a = c in record { framed = framed c.requires.axes c.steady_states-states.ensures; ready = a.requires.ready }
+pub of-figures-requires : goal.of-figures-requires
+of-figures-requires c = steady_small c.args.f.head c.args.store.now c.requires.axes.ranges
 
 pub run_levels-run-requires : goal.run_levels-run-requires
 unfolding sheet_of
-run_levels-run-requires c = let a = c in
-    let ok = a.requires.axes.ranges in
-    let w = a.requires.ready in
-    let levels = plan_levels _ _ _ _ _ _ _ _ c.find_plan.ensures ok (omega (arith, w.readable.done)) w.peak c.if-find_plan.true in
+run_levels-run-requires c =
+    let ok = c.requires.axes.ranges in
+    let w = c.requires.ready in
+    let n = c.args.f.head.jobs - c.args.start.done in
+    let part = c.find_plan.new.part in
+    let long = length-take-le n part (omega (arith, w.part, c.find_plan.auto.part)) in
+    let levels = plan_levels _ _ _ _ _ _ _ _ (same_sheet c.args.f.head c.of-figures.ensures.store c.find_plan.ensures) ok (omega (arith, w.readable.done)) w.peak c.if-not-find_plan.false in
     record {
       begun =
           record {
             sheet = sheet_of c.args.f.head c.args.store.now;
             ranges = ok;
-            stored = (framed c.requires.axes c.steady_states-states.ensures).stored;
-            done = omega (arith, w.readable.done, ok.jobs.high);
+            stored = c.of-figures.ensures.stored c.args.f.head refl;
+            done = omega (arith, w.readable.done, ok.jobs.high, long);
             level = omega (arith, w.readable.range.level, ok.levels.high);
             time = w.readable.range.time;
             energy = w.readable.range.energy;
             temperature = w.readable.range.temperature;
           };
-      long = omega (arith, w.part, c.find_plan.auto.part);
-      below = λ i h. omega (arith, levels i (omega arith), ok.levels.high);
+      below = λ i h. let l : i < n = omega (arith, h, long) in omega (arith, get_or-take n part i 0 l, levels i l, ok.levels.high);
     }
 
-pub returns-then-find_plan : goal.returns-then-find_plan
+pub returns-then-not-find_plan : goal.returns-then-not-find_plan
 unfolding sheet_of
-returns-then-find_plan c = let a = c in
-    answers_plan _ _ _ _ _ _ _ _ c.find_plan.ensures a.requires.axes.ranges (omega (arith, a.requires.ready.readable.done)) a.requires.ready.peak c.if-find_plan.true _ _ (c.run_levels-run.ensures (sheet_of c.args.f.head c.args.store.now) a.requires.axes.ranges (framed c.requires.axes c.steady_states-states.ensures).stored) c.planned.ensures
+returns-then-not-find_plan c = answers_none _ _ _ _ _ _ _ _ (same_sheet c.args.f.head c.of-figures.ensures.store c.find_plan.ensures) c.if-not-find_plan.true _ refl
 
 pub returns : goal.returns
 unfolding sheet_of
-returns c = answers_none _ _ _ _ _ _ _ _ c.find_plan.ensures c.if-find_plan.false _ c.refuse.ensures
+returns c =
+    let ok = c.requires.axes.ranges in
+    let w = c.requires.ready in
+    answers_plan _ _ _ _ _ _ _ _ (same_sheet c.args.f.head c.of-figures.ensures.store c.find_plan.ensures) ok (omega (arith, w.readable.done)) w.peak c.if-not-find_plan.false _ _ (c.run_levels-run.ensures (sheet_of c.args.f.head c.args.store.now) ok (c.of-figures.ensures.stored c.args.f.head refl)) (ap (λ (t : Totals). reply_by (Ok t)) c.from.ensures)

@@ -1,10 +1,10 @@
--- `find` stops at the first byte b: eight bytes at a time by `pass_eight`, and the last by `find_near`.
-use Prim.Native.Nat.{◌-◌}
-use Rattle.text.proofs.Found.{Finding}
+-- `find` stops at the first byte b: each eight bytes that it passes have none.
+use lib.ListN.{length}
+use Rattle.text.proofs.Text.{Passed}
 use Rattle.text.proofs.find.Given as goal
 
-abbrev pub invariant-loop-i : goal.invariant-loop-i
-invariant-loop-i l = Finding l.b l.s l.from l.to l.i
+abbrev pub invariant-loop-eight : goal.invariant-loop-eight
+invariant-loop-eight l = Passed l.b l.t l.rest
 
-abbrev pub decreases-loop-i : goal.decreases-loop-i
-decreases-loop-i l = l.to - l.i
+abbrev pub decreases-loop-eight : goal.decreases-loop-eight
+decreases-loop-eight l = length l.rest

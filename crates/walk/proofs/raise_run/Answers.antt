@@ -21,11 +21,5 @@ overflow_mul-energy c = omega (arith, small _ _ _ c.ceil_div.ensures, c.requires
 pub overflow_mul-temperature : goal.overflow_mul-temperature
 overflow_mul-temperature c = omega (arith, small _ _ _ c.ceil_div-2.ensures, c.requires)
 
-pub overflow_cast-energy : goal.overflow_cast-energy
-overflow_cast-energy c = omega (arith, small _ _ _ c.ceil_div.ensures, c.requires)
-
-pub overflow_cast-temperature : goal.overflow_cast-temperature
-overflow_cast-temperature c = omega (arith, small _ _ _ c.ceil_div-2.ensures, c.requires)
-
 pub returns : goal.returns
 returns c = c.fresh.ensures ∙ ap₂ (fresh _ _) (raised _ _ _ c.ceil_div.ensures) (raised _ _ _ c.ceil_div-2.ensures)

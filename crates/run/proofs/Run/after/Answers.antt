@@ -29,4 +29,4 @@ unfolding step change job
 worked {a = a} f q r = cc (add-one a.done)
 
 pub returns : goal.returns
-returns c = λ s f. worked f c.temperature_after-temperature.ensures c.larger-peak.ensures
+returns c = λ s f. worked f c.temperature_after-temperature.ensures c.max-peak.ensures

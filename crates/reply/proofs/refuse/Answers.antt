@@ -1,6 +1,0 @@
--- The figures by their names: the two sides are the same.
-use mathlib.Core.Path.{refl}
-use Rattle.reply.proofs.refuse.Goals as goal
-
-pub returns : goal.returns
-returns c = refl

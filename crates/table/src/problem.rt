@@ -1,0 +1,13 @@
+ghost use Rattle.store.specs.Figures.{sheet_of};
+ghost use Rattle.table.specs.Table.{Framed};
+
+use crate::Frame;
+use step::Figures;
+
+// A sheet to plan, with all that planning takes of it: the axes of its table, and its figures.
+#[derive(Clone, Copy)]
+pub struct Problem<'a> {
+    pub frame: Frame,
+    pub figures: Figures<'a>,
+    pub ghost framed: { Framed (sheet_of frame.head figures.store.now) frame figures.store.now figures.steady },
+}
