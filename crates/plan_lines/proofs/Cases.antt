@@ -3,8 +3,7 @@
 use mathlib.Core.Path.{◌≡◌, refl}
 use mathlib.Core.List.{List, [], ◌∷◌}
 use Prim.Native.Nat.{ℕ}
-use Rattle.std.specs.Fmt.{digits}
-use Rattle.writer.specs.Decimal.{field}
+use Rattle.writer.specs.Decimal.{digits_in, decimal, field}
 use Rattle.plan_lines.specs.Lines.{line_end, plan_line, job_line, refusal_line}
 use Rattle.plan_lines.specs.Cases.{Case, cases}
 
@@ -17,5 +16,5 @@ expected [] = []
 expected (c ∷ cs) = c.expected ∷ expected cs
 
 pub cases_hold : given cases ≡ expected cases
-unfolding plan_line job_line refusal_line line_end field digits
+unfolding plan_line job_line refusal_line line_end field decimal digits_in
 cases_hold = refl

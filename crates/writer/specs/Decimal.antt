@@ -1,12 +1,17 @@
 -- Numbers as the bytes of their digits (document 01, 'Units' and 'The sheet'). `read_back` in `proofs/Decimal.antt` shows that
 -- the sheet's reader takes them for the same numbers, of up to 10 digits.
 -- Assumes nothing.
-use Rattle.std.specs.Prelude.{List, ◌∷◌, ℕ, ◌^◌}
-use Rattle.std.specs.Fmt as print
+use Rattle.std.specs.Prelude.{cond, List, [], ◌∷◌, ◌++◌, ℕ, zero, suc, ◌+◌, ◌/◌, ◌%◌, ◌^◌, ltb}
 
--- A number "written in base ten": "no leading zero, except 0 itself". Digits are bytes 48 to 57.
-abbrev pub decimal : ℕ → List ℕ
-decimal = print.decimal
+-- The last k digits of n, the highest first, and no more than n has: "no leading zero, except 0 itself". Digits are bytes 48
+-- to 57.
+unfoldable pub digits_in : ℕ → ℕ → List ℕ
+digits_in zero n = []
+digits_in (suc k) n = cond (ltb n 10) ((48 + n) ∷ []) (digits_in k (n / 10) ++ ((48 + n % 10) ∷ []))
+
+-- A number "written in base ten". A 64-bit number has at most 20 digits.
+unfoldable pub decimal : ℕ → List ℕ
+decimal n = digits_in 20 n
 
 -- "fields are parted by one byte 9": a number with the byte 9 that parts it from the field before.
 unfoldable pub field : ℕ → List ℕ
