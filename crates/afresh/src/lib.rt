@@ -11,7 +11,7 @@ ghost use Rattle.demands.specs.Afresh.{AfreshDemands};
 use refusal::Refusal;
 use reply::Totals;
 use run::Run;
-use store::STORE_SIZE;
+use store::Store;
 
 // Plans the jobs of a sheet that are still to do, from what is read after `done` of them: levels to `part`, least times to `table`.
 pub fn plan_afresh(
@@ -27,7 +27,7 @@ pub fn plan_afresh(
     ensures answers { Answers (afresh_of s.now (reading done level time energy temperature) (length table.old) (length part.old)) table.old table.new part.old part.new (reply_by result) }
     ensures afresh_demands { AfreshDemands s.now (reading done level time energy temperature) (length table.old) (length part.old) part.new (reply_by result) }
 {
-    let mut store = [0u32; STORE_SIZE];
+    let mut store = Store::clear();
     let read = sheet::read(s, &mut store);
     let start = Run {
         done,

@@ -1,296 +1,128 @@
 -- Laws of the lines after the H line: one block or job more, and where the reading stops.
 -- Assumes nothing.
 use mathlib.Core.Path.{◌≡◌, refl, ap, sym, ◌∙◌}
-use mathlib.Core.Bool.{Bool, true, false, cond}
-use mathlib.Core.List.{List}
 use Prim.Native.Nat.{ℕ, zero, suc, ◌+◌, ◌*◌, ◌-◌, ◌≤◌, ◌<◌}
 use native.Mathlib.Omega.{arith}
-use lib.ListN.{length, drop, length-drop}
-use lib.Seq.{drop-drop}
-use Rattle.std.specs.Prelude.{Option, Some, None, Result, Ok, Err}
-use Rattle.std.specs.Option.{option_map, option_map_or, is_some}
-use Rattle.std.proofs.lemmas.Option.{none-some}
-use Rattle.text.specs.Text.{until, beyond, ahead, next_line}
-use Rattle.text.proofs.Text.{line_some, line_none, beyond_drop, ahead_lt}
-use Rattle.fast_fields.specs.Take.{line_taken}
-use Rattle.fast_fields.proofs.Line.{line_at}
-use Rattle.fast_name_lines.specs.Name.{name_line_max}
-use Rattle.name_lines.specs.Name.{name_fault}
-use Rattle.fields.specs.declared.Fault.{Fault}
-use Rattle.fields.specs.declared.Fault.TheVariants.{Shape}
-use Rattle.name_lines.proofs.Name.{name_field}
-use Rattle.fields.proofs.Faults.{field_le}
-use Rattle.fields.specs.Fields.{after}
-use Rattle.lines.specs.Lines.{Found, block_from, found_in, Reads}
-use Rattle.line_kinds.specs.declared.Kind.TheVariants.{Level, Change, Work}
-use Rattle.lines.specs.declared.Stop.{Stop}
-use Rattle.fields.proofs.Within.{cond_cases}
+use Rattle.std.specs.Prelude.{Ok, Err}
+use Rattle.text.specs.Text.{until}
 use Rattle.fields.proofs.After.{after_cases}
-use Rattle.lines.proofs.Places.{Placed, block_placed}
-use Rattle.store.specs.Store.{jobs_max, levels_max, store_size}
-use Rattle.body.specs.Body.{body_line, changes_line, jobs_line, end_line, onward, changes_from, jobs_from, body_from}
-use Rattle.body.specs.Naming.{NameRead}
+use Rattle.reading.specs.declared.LineFault.{LineFault}
+use Rattle.reading.specs.Rest.{Rest, next_by}
+use Rattle.reading.proofs.Next.{line_read, line_fault}
+use Rattle.store.specs.declared.Store.{Store}
+use Rattle.store.specs.Store.{jobs_max, levels_max}
+use Rattle.name_lines.specs.Name.{name_fault}
+use Rattle.name_lines.proofs.Name.{name_field}
+use Rattle.line_kinds.specs.declared.Kind.TheVariants.{Level, Change, Work}
+use Rattle.lines.specs.Lines.{Found, stop, block_from}
+use Rattle.lines.proofs.Places.{Placed, placed_end, placed_stop, block_placed}
+use Rattle.body.specs.Body.{job_lines, head_lines, lines_before, end_line, onward, changes_from, jobs_from, body_from}
 
 -- ---- going on or stopping
 
-some_stops : {X : Type 0} (o : Option Fault) (stop go : X) → is_some o ≡ true → option_map_or (λ f. stop) o go ≡ stop
-some_stops None stop go h = absurd cc
-some_stops (Some f) stop go h = refl
+-- Lines are read to where r is left, and leave the store.
+abbrev pub pass : Store → Rest → Found
+pass st r = record { read = Ok r; store = st }
 
-none_goes : (o : Option Fault) → is_some o ≡ false → o ≡ None
-none_goes None h = refl
-none_goes (Some f) h = absurd cc
+module _ {f : Found} {st : Store} (go : Rest → Store → Found) where
+  onward_stop : {e : LineFault} → stop st e ≡ f → stop st e ≡ onward f go
+  onward_stop h = rw (← h) refl
 
-module _ (f g : Found) (go : List ℕ → ℕ → List ℕ → Found) (e : f ≡ g) where
-  pub onward_stop : is_some f.fault ≡ true → f ≡ onward g go
-  onward_stop o = rw (← e) (sym (some_stops f.fault f _ o))
+  onward_on : {r : Rest} → pass st r ≡ f → onward f go ≡ go r st
+  onward_on h = rw (← h) refl
 
-  pub onward_on : is_some f.fault ≡ false → onward g go ≡ go f.rest f.line f.store
-  onward_on q = rw (← e, none_goes f.fault q) refl
+-- ---- n parts of a sheet, of which the first i are read
 
--- ---- the S lines, those of p levels read
+-- What is found in the next parts, as many as the first number says, from that of the second number on.
+abbrev pub Parts : Type 0
+Parts = ℕ → ℕ → Rest → Store → Found
 
-pub record Changes (s : List ℕ) (at line l : ℕ) (old store : List ℕ) (a q p : ℕ) : Type 0 where
-  pub most : p ≤ l
-  pub few : l ≤ levels_max
-  pub early : line ≤ changes_line
-  pub within : a ≤ length s
-  pub lines : q ≤ line + p * levels_max
-  pub long : length store ≡ store_size
-  pub rest : changes_from l l 0 (drop at s) line old ≡ changes_from l (l - p) p (drop a s) q store
+pub record PartsLeft (from : Parts) (n i : ℕ) (start : Rest) (old : Store) (rest : Rest) (store : Store) : Type 0 where
+  pub same : from n 0 start old ≡ from (n - i) i rest store
 
-pub changes_none : (s : List ℕ) (at line l : ℕ) (old : List ℕ) → l ≤ levels_max → line ≤ changes_line → at ≤ length s → length old ≡ store_size → Changes s at line l old old at line 0
-changes_none s at line l old h n k m =
-    let z : l - 0 ≡ l = omega arith in
-    record { most = omega arith; few = h; early = n; within = k; lines = omega arith; long = m; rest = rw z refl }
+module _ {from : Parts} {n i : ℕ} {start rest : Rest} {old store : Store} (g : PartsLeft from n i start old rest store) where
+  pub parts_all : n ≤ i → from n 0 start old ≡ from 0 i rest store
+  parts_all h = let z : n - i ≡ 0 = omega arith in rw z at g.same
 
-module _ {s : List ℕ} {at line l : ℕ} {old store : List ℕ} {a q p : ℕ} (g : Changes s at line l old store a q p) where
-  pub changes_all : l ≤ p → Reads s (changes_from l l 0 (drop at s) line old) (line + l * levels_max) store (record { fault = None; line = q; at = a })
-  unfolding changes_from
-  changes_all h =
-      let z : l - p ≡ 0 = omega arith in
-      record { found = sym (rw z at g.rest); within = g.within; lines = omega (arith, g.lines, g.most); long = g.long }
+  module _ (h : i < n) where
+    pub parts_more : from n 0 start old ≡ from (suc (n - (i + 1))) i rest store
+    parts_more = let z : n - i ≡ suc (n - (i + 1)) = omega arith in rw z at g.same
 
-  module _ (h : p < l) (new : List ℕ) (b : Stop) (r : Reads s (block_from (Change p) (p * levels_max) l 0 (drop a s) q store) (q + l) new b) where
-    left : l - p ≡ suc (l - (p + 1))
-    left = omega arith
+    -- The next part is f.
+    module _ {f : Found} {new : Store} (step : from (suc (n - (i + 1))) i rest store ≡ onward f (from (n - (i + 1)) (i + 1))) where
+      pub parts_stop : {e : LineFault} → stop new e ≡ f → stop new e ≡ from n 0 start old
+      parts_stop q = onward_stop (from (n - (i + 1)) (i + 1)) q ∙ sym (parts_more ∙ step)
 
-    pub changes_stop : is_some b.fault ≡ true → Reads s (changes_from l l 0 (drop at s) line old) (line + l * levels_max) new b
-    unfolding changes_from
-    changes_stop o =
-        record {
-          found = onward_stop _ _ (changes_from l (l - (p + 1)) (p + 1)) r.found o ∙ sym (rw left at g.rest);
-          within = r.within;
-          lines = omega (arith, r.lines, g.lines, g.few);
-          long = r.long;
-        }
+      pub parts_on : {r : Rest} → pass new r ≡ f → PartsLeft from n (i + 1) start old r new
+      parts_on q = record { same = parts_more ∙ step ∙ onward_on (from (n - (i + 1)) (i + 1)) q }
 
-    pub changes_on : is_some b.fault ≡ false → Changes s at line l old new b.at b.line (p + 1)
-    unfolding changes_from
-    changes_on f =
-        record {
-          most = omega arith;
-          few = g.few;
-          early = g.early;
-          within = r.within;
-          lines = omega (arith, r.lines, g.lines, g.few);
-          long = r.long;
-          rest = rw left at g.rest ∙ onward_on _ _ (changes_from l (l - (p + 1)) (p + 1)) r.found f;
-        }
+-- ---- a job, by its J line
 
--- ---- a line J
-
-module _ (s : List ℕ) (p : ℕ) where
-  pub name_missing : None ≡ next_line (drop p s) → NameRead s p (Err Shape)
-  name_missing e = record { fault = rw (line_none (drop p s) e) refl; next = tt }
-
-  module _ (bytes : List ℕ) (e : Some bytes ≡ next_line (drop p s)) where
-    pub name_wrong : (f : Fault) → Err f ≡ name_fault bytes → NameRead s p (Err f)
-    name_wrong f q = let l = line_some (drop p s) bytes e in record { fault = rw (l.ends, ← l.is) q; next = tt }
-
-    pub name_read : Ok tt ≡ name_fault bytes → NameRead s p (Ok (p + length bytes + 1))
-    name_read q =
-        let l = line_some (drop p s) bytes e in
-        let z : p + length bytes + 1 ≡ p + (length bytes + 1) = omega arith in
-        record {
-          fault = rw (l.ends, ← l.is) q;
-          next = rw z (l.next ∙ drop-drop (length bytes + 1) p s, omega (arith, l.long, length-drop p s));
-        }
-
-  -- A line J that is taken in one pass is read.
-  pub name_taken : (n : ℕ) → Some n ≡ option_map (λ line. line.1) (line_taken name_line_max name_fault (drop p s)) → NameRead s p (Ok (p + n))
-  name_taken n e = go (line_taken name_line_max name_fault (drop p s)) refl e
-    where
-      go : (o : Option (Unit {0} × ℕ)) → line_taken name_line_max name_fault (drop p s) ≡ o → Some n ≡ option_map (λ line. line.1) o → NameRead s p (Ok (p + n))
-      go None q k = absurd (none-some n (sym k))
-      go (Some x) q k =
-          let z = line_at name_line_max name_fault (drop p s) {a = x.0} {n = x.1} q in
-          let y : n ≡ x.1 = cc in
-          record {
-            fault = rw (z.ends, z.says) refl;
-            next = (beyond_drop 10 p s ∙ ap (λ (i : ℕ). drop i s) (omega (arith, y, z.size)), omega (arith, y, z.size, ahead_lt 10 (drop p s) z.ends, length-drop p s));
-          }
-
--- The reading stops at its fault, and else goes on.
-name_stop : (b : Bool) (g : Result (Unit {0}) Fault) (f : Fault) (stop : Fault → Found) (go : Unit {0} → Found) → Err f ≡ cond b g (Err Shape) →
-    cond b (after g stop go) (stop Shape) ≡ stop f
-name_stop true g f stop go e = rw (← e) refl
-name_stop false g f stop go e = let q : f ≡ Shape = cc in rw q refl
-
-name_then : (b : Bool) (g : Result (Unit {0}) Fault) (u : Unit {0}) (stop : Fault → Found) (go : Unit {0} → Found) → Ok u ≡ cond b g (Err Shape) →
-    cond b (after g stop go) (stop Shape) ≡ go u
-name_then true g u stop go e = rw (← e) refl
-name_then false g u stop go e = absurd cc
-
--- ---- the jobs' lines, those of i jobs read
-
-pub record Jobs (s : List ℕ) (at line l m : ℕ) (old store : List ℕ) (a q i : ℕ) : Type 0 where
-  pub most : i ≤ m
-  pub few : l ≤ levels_max
-  pub early : line ≤ jobs_line
-  pub within : a ≤ length s
-  pub lines : q ≤ line + i * (levels_max + 1)
-  pub long : length store ≡ store_size
-  pub rest : jobs_from l m 0 (drop at s) line old ≡ jobs_from l (m - i) i (drop a s) q store
-
-pub jobs_none : (s : List ℕ) (at line l m : ℕ) (old : List ℕ) → l ≤ levels_max → line ≤ jobs_line → at ≤ length s → length old ≡ store_size → Jobs s at line l m old old at line 0
-jobs_none s at line l m old h n k o =
-    let z : m - 0 ≡ m = omega arith in
-    record { most = omega arith; few = h; early = n; within = k; lines = omega arith; long = o; rest = rw z refl }
-
-module _ {s : List ℕ} {at line l m : ℕ} {old store : List ℕ} {a q i : ℕ} (g : Jobs s at line l m old store a q i) where
-  pub jobs_all : m ≤ i → Reads s (jobs_from l m 0 (drop at s) line old) (line + m * (levels_max + 1)) store (record { fault = None; line = q; at = a })
+module _ (l n i : ℕ) (rest : Rest) (store : Store) where
+  pub job_unnamed : {e : LineFault} → Err e ≡ next_by name_fault rest → stop store e ≡ jobs_from l (suc n) i rest store
   unfolding jobs_from
-  jobs_all h =
-      let z : m - i ≡ 0 = omega arith in
-      record { found = sym (rw z at g.rest); within = g.within; lines = omega (arith, g.lines, g.most); long = g.long }
+  job_unnamed q = rw (← q) refl
 
-  module _ (h : i < m) where
-    -- Where the line J of job i has a fault, and what follows where it has none.
-    abbrev halt : Fault → Found
-    halt f = record { fault = Some f; line = q; rest = drop a s; store = store }
-
-    abbrev work : Unit {0} → Found
-    work name = onward (block_from Work (i * levels_max) l 0 (beyond 10 (drop a s)) (q + 1) store) (jobs_from l (m - (i + 1)) (i + 1))
-
-    step : jobs_from l m 0 (drop at s) line old ≡ cond (ahead 10 (drop a s)) (after (name_fault (until 10 (drop a s))) halt work) (halt Shape)
-    unfolding jobs_from
-    step = let remaining : m - i ≡ suc (m - (i + 1)) = omega arith in g.rest ∙ rw remaining refl
-
-    pub jobs_name : (f : Fault) → NameRead s a (Err f) →
-        Reads s (jobs_from l m 0 (drop at s) line old) (line + m * (levels_max + 1)) store (record { fault = Some f; line = q; at = a })
-    jobs_name f z =
-        record {
-          found = sym (step ∙ name_stop (ahead 10 (drop a s)) (name_fault (until 10 (drop a s))) f halt work z.fault);
-          within = g.within;
-          lines = omega (arith, g.lines);
-          long = g.long;
-        }
-
-    module _ (after_name : ℕ) (z : NameRead s a (Ok after_name)) (new : List ℕ) (b : Stop) (w : Reads s (block_from Work (i * levels_max) l 0 (drop after_name s) (q + 1) store) (q + 1 + l) new b) where
-      next : jobs_from l m 0 (drop at s) line old ≡ onward (block_from Work (i * levels_max) l 0 (drop after_name s) (q + 1) store) (jobs_from l (m - (i + 1)) (i + 1))
-      next =
-          step
-          ∙ name_then (ahead 10 (drop a s)) (name_fault (until 10 (drop a s))) tt halt work z.fault
-          ∙ ap (λ (t : List ℕ). onward (block_from Work (i * levels_max) l 0 t (q + 1) store) (jobs_from l (m - (i + 1)) (i + 1))) z.next.0
-
-      pub jobs_stop : is_some b.fault ≡ true → Reads s (jobs_from l m 0 (drop at s) line old) (line + m * (levels_max + 1)) new b
-      jobs_stop o =
-          record {
-            found = onward_stop _ _ (jobs_from l (m - (i + 1)) (i + 1)) w.found o ∙ sym next;
-            within = w.within;
-            lines = omega (arith, w.lines, g.lines, g.few);
-            long = w.long;
-          }
-
-      pub jobs_on : is_some b.fault ≡ false → Jobs s at line l m old new b.at b.line (i + 1)
-      jobs_on c =
-          record {
-            most = omega arith;
-            few = g.few;
-            early = g.early;
-            within = w.within;
-            lines = omega (arith, w.lines, g.lines, g.few);
-            long = w.long;
-            rest = next ∙ onward_on _ _ (jobs_from l (m - (i + 1)) (i + 1)) w.found c;
-          }
+  pub job_named : {r : Rest} → Ok (tt, r) ≡ next_by name_fault rest →
+      jobs_from l (suc n) i rest store ≡ onward (block_from (Work i) l 0 r store) (jobs_from l n (i + 1))
+  unfolding jobs_from
+  job_named q = rw (← q) refl
 
 -- ---- all of them, one after the other
 
-module _ (s : List ℕ) (at m l resistance : ℕ) (old : List ℕ) (few : l ≤ levels_max) (jobs : m ≤ jobs_max)
-    {one : List ℕ} {a : Stop} (u : Reads s (block_from (Level resistance) 0 l 0 (drop at s) body_line old) (body_line + l) one a) where
-  pub body_levels : is_some a.fault ≡ true → Reads s (body_from m l resistance (drop at s) body_line old) end_line one a
+module _ (m l resistance : ℕ) (start : Rest) (old : Store) {one : Store} where
+  pub body_levels : {e : LineFault} → stop one e ≡ block_from (Level resistance) l 0 start old →
+      stop one e ≡ body_from m l resistance start old
   unfolding body_from
-  body_levels o =
-      record {
-        found = onward_stop _ _ (jobs_from l m 0) (onward_stop _ _ (changes_from l l 0) u.found o) o;
-        within = u.within;
-        lines = omega (arith, u.lines);
-        long = u.long;
-      }
+  body_levels a = onward_stop (jobs_from l m 0) (onward_stop (changes_from l l 0) a)
 
-  module _ (sound : is_some a.fault ≡ false) {two : List ℕ} {b : Stop} (v : Reads s (changes_from l l 0 (drop a.at s) a.line one) (a.line + l * levels_max) two b) where
-    chained : found_in s b two ≡ onward (block_from (Level resistance) 0 l 0 (drop at s) body_line old) (changes_from l l 0)
-    chained = v.found ∙ sym (onward_on _ _ (changes_from l l 0) u.found sound)
-
-    pub body_changes : is_some b.fault ≡ true → Reads s (body_from m l resistance (drop at s) body_line old) end_line two b
+  module _ {changes : Rest} (a : pass one changes ≡ block_from (Level resistance) l 0 start old) {two : Store} where
+    pub body_changes : {e : LineFault} → stop two e ≡ changes_from l l 0 changes one →
+        stop two e ≡ body_from m l resistance start old
     unfolding body_from
-    body_changes o =
-        record {
-          found = onward_stop _ _ (jobs_from l m 0) chained o;
-          within = v.within;
-          lines = omega (arith, u.lines, v.lines);
-          long = v.long;
-        }
+    body_changes b = onward_stop (jobs_from l m 0) (b ∙ sym (onward_on (changes_from l l 0) a))
 
-    pub body_jobs : is_some b.fault ≡ false → {three : List ℕ} {c : Stop} → Reads s (jobs_from l m 0 (drop b.at s) b.line two) (b.line + m * (levels_max + 1)) three c →
-        Reads s (body_from m l resistance (drop at s) body_line old) end_line three c
+    pub body_jobs : {jobs : Rest} → pass two jobs ≡ changes_from l l 0 changes one → {f : Found} → f ≡ jobs_from l m 0 jobs two →
+        f ≡ body_from m l resistance start old
     unfolding body_from
-    body_jobs q w =
-        record {
-          found = w.found ∙ sym (onward_on _ _ (jobs_from l m 0) chained q);
-          within = w.within;
-          lines = omega (arith, u.lines, v.lines, w.lines);
-          long = w.long;
-        }
+    body_jobs b c = c ∙ sym (onward_on (jobs_from l m 0) (b ∙ sym (onward_on (changes_from l l 0) a)))
 
 -- ---- where the reading stops at the latest
 
 -- Lines that stop at line a at the latest, and those after them, if they are sound.
-onward_placed : (a most : ℕ) (f : Found) (go : List ℕ → ℕ → List ℕ → Found) → a ≤ most → Placed a f →
-    ((t : List ℕ) (ln : ℕ) (st : List ℕ) → ln ≤ a → Placed most (go t ln st)) → Placed most (onward f go)
-onward_placed a most f go h p q = go_on f.fault refl
-  where
-    go_on : (o : Option Fault) → f.fault ≡ o → Placed most (option_map_or (λ fault. f) o (go f.rest f.line f.store))
-    go_on None e = q f.rest f.line f.store p.line
-    go_on (Some fault) e = record { line = omega (arith, p.line); field = p.field }
+onward_placed : (a most : ℕ) (f : Found) (go : Rest → Store → Found) → a ≤ most → Placed a f →
+    ((r : Rest) (st : Store) → r.line ≤ a → Placed most (go r st)) → Placed most (onward f go)
+onward_placed a most f go h p q =
+    after_cases (Placed most) f.read _ _ (λ e i. let z = p.fault e i in placed_stop most f.store e (omega (arith, z.0)) z.1)
+    (λ r i. q r f.store (p.line r i))
 
 module _ (l : ℕ) (few : l ≤ levels_max) (most : ℕ) where
   -- The S lines of the next n levels left.
-  changes_placed : (n p : ℕ) (t : List ℕ) (ln : ℕ) (st : List ℕ) → ln + n * levels_max ≤ most → Placed most (changes_from l n p t ln st)
+  changes_placed : (n p : ℕ) (r : Rest) (st : Store) → r.line + n * levels_max ≤ most → Placed most (changes_from l n p r st)
   unfolding changes_from
-  changes_placed zero p t ln st h = record { line = omega arith; field = omega arith }
-  changes_placed (suc n) p t ln st h =
-      onward_placed (ln + l) most _ _ (omega arith) (block_placed (Change p) (p * levels_max) l 0 t ln st)
-      (λ u k store q. changes_placed n (p + 1) u k store (omega arith))
+  changes_placed zero p r st h = placed_end most st r (omega arith)
+  changes_placed (suc n) p r st h =
+      onward_placed (r.line + l) most _ _ (omega arith) (block_placed (Change p) l 0 r st)
+      (λ s store q. changes_placed n (p + 1) s store (omega arith))
 
   -- The lines of the next n jobs.
-  jobs_placed : (n i : ℕ) (t : List ℕ) (ln : ℕ) (st : List ℕ) → ln + n * (levels_max + 1) ≤ most → Placed most (jobs_from l n i t ln st)
+  jobs_placed : (n i : ℕ) (r : Rest) (st : Store) → r.line + n * job_lines levels_max ≤ most → Placed most (jobs_from l n i r st)
   unfolding jobs_from
-  jobs_placed zero i t ln st h = record { line = omega arith; field = omega arith }
-  jobs_placed (suc n) i t ln st h =
-      let name = name_fault (until 10 t) in
-      cond_cases (Placed most) (ahead 10 t) _ _
-      (λ a. after_cases (Placed most) name _ _ (λ f e. record { line = omega arith; field = field_le name f e (name_field (until 10 t)) })
-      (λ u e. onward_placed (ln + 1 + l) most _ _ (omega arith) (block_placed Work (i * levels_max) l 0 (beyond 10 t) (ln + 1) st)
-      (λ u k store q. jobs_placed n (i + 1) u k store (omega arith))))
-      (λ a. record { line = omega arith; field = omega arith })
+  jobs_placed zero i r st h = placed_end most st r (omega arith)
+  jobs_placed (suc n) i r st h =
+      after_cases (Placed most) (next_by name_fault r) _ _
+      (λ f e. let z = line_fault name_fault r f (name_field (until 10 r.text)) e in placed_stop most st f (omega (arith, z.line)) z.field)
+      (λ name e.
+      let z = ap (λ (s : Rest). s.line) (line_read name_fault r name e).rest in
+      onward_placed (name.1.line + l) most _ _ (omega (arith, z)) (block_placed (Work i) l 0 name.1 st)
+      (λ s store q. jobs_placed n (i + 1) s store (omega (arith, z))))
 
 -- All of them, and bytes after them on the next line.
-pub body_placed : (m l resistance : ℕ) (t st : List ℕ) → m ≤ jobs_max → l ≤ levels_max → Placed end_line (body_from m l resistance t body_line st)
+pub body_placed : (m l resistance : ℕ) (r : Rest) (st : Store) → m ≤ jobs_max → l ≤ levels_max → r.line ≤ head_lines + 1 →
+    Placed end_line (body_from m l resistance r st)
 unfolding body_from
-body_placed m l resistance t st jobs few =
-    onward_placed jobs_line end_line _ _ (omega arith)
-    (onward_placed (body_line + l) jobs_line _ _ (omega arith) (block_placed (Level resistance) 0 l 0 t body_line st)
-    (λ u k store q. changes_placed l few jobs_line l 0 u k store (omega arith)))
-    (λ u k store q. jobs_placed l few end_line m 0 u k store (omega arith))
+body_placed m l resistance r st jobs few h =
+    onward_placed (lines_before levels_max 0 + 1) end_line _ _ (omega arith)
+    (onward_placed (r.line + l) (lines_before levels_max 0 + 1) _ _ (omega arith) (block_placed (Level resistance) l 0 r st)
+    (λ s store q. changes_placed l few _ l 0 s store (omega arith)))
+    (λ s store q. jobs_placed l few end_line m 0 s store (omega arith))

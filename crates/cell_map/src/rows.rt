@@ -1,6 +1,7 @@
 ghost use Rattle.std.specs.Prelude.{◌≡◌, ◌+◌, ◌*◌, ◌-◌, ◌^◌, ◌≤◌, ◌<◌};
 
 // The words of a level: a row for each energy cell, of a word for each temperature cell. The first row begins at `at`.
+// The table that they lie in is no part of it: it changes with each word written, and with it what a contract says of its words.
 #[derive(Clone, Copy)]
 pub struct Rows {
     pub at: usize,

@@ -3,6 +3,7 @@
 // The checks that follow the sheet's own: 7, 8 and 9 of what is lent, and 13, 14 and 5 of what is read.
 ghost use Rattle.std.specs.Prelude.{◌≡◌, List, ℕ, ◌-◌};
 ghost use Rattle.std.specs.Result.{result_err};
+ghost use Rattle.store.specs.declared.Store.{Store};
 ghost use Rattle.store.specs.Figures.{sheet_of};
 ghost use Rattle.run.specs.Run.{state_of};
 ghost use Rattle.checks.specs.Checks.{lack_of, fault_of};
@@ -37,7 +38,7 @@ pub fn check_memory(need: usize, n: usize, words: usize, bytes: usize) -> Result
 
 // Refuses a reading that no plan goes on from: 13, 14 or 5.
 pub fn check_reading(head: Head, a: Run) -> Result<(), Refusal>
-    ensures { (store : List ℕ) → result_err result ≡ fault_of (sheet_of head store) (state_of a) }
+    ensures { (store : Store) → result_err result ≡ fault_of (sheet_of head store) (state_of a) }
 {
     if head.jobs <= a.done {
         return Err(Refusal::AllDone);

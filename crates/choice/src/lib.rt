@@ -19,6 +19,7 @@ use word::NO_WAY;
 const INFEASIBLE: u64 = NO_WAY as u64;
 
 // The time from a cell on where its next job takes level j, "4,294,967,295 where no way exists".
+// The level is a plain number, bounded in the contract: each call has another, and a type for it would have to hold its sheet.
 fn way(problem: &Problem, table: &[u32], a: Run, j: u32) -> u64
     requires { let s = sheet_for problem.now in record { room : need s ≤ length table.now; at : AtCell s (state_of a); level : j < s.levels } }
     ensures { let s = sheet_for problem.now in result ≡ via s (rest_by s table.now) (state_of a) j }

@@ -14,7 +14,8 @@ use word::FAR;
 // A loop over a row of at most so many cells costs more than its words: such rows are written column by column.
 const SHORT_ROW: usize = 16;
 
-// Writes the first n cells of row a, which lead to a cell: from the rows of the next job, or 0 after the last job.
+// Writes the first n cells of row a, which lead to a cell: from the rows of the next job, or 0 after the last job. What is read and what
+// is written lie in one table, so that a row is told by its place.
 fn lead_row(table: &mut [u32], rows: Rows, a: usize, n: usize, next: Option<usize>)
     requires { record {
       row : a < rows.count;

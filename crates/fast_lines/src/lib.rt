@@ -8,6 +8,7 @@ ghost use Rattle.fast_lines.specs.Take.{room_for, entry_taken};
 use fast_fields::DIGITS_TAKEN;
 use fields::Range;
 use line_kinds::{COST, DECAY, Entry, JOB_TIME, Kind, POWER, STEADY_STATE_MAX};
+use store::{Change, Work};
 use text::{LINE_END, TAB};
 
 // What a number needs that is taken: its digits, and the byte behind them.
@@ -36,9 +37,9 @@ fn take_numbers<const N: usize>(
     Some((values, at))
 }
 
-// Takes line i, from 0, of the lines of a kind: what it says, and how many bytes it has, with its byte 10.
-pub fn take_line(t: &[u8], kind: Kind, i: usize) -> Option<(Entry, usize)>
-    ensures { result ≡ entry_taken kind i t.now }
+// Takes line j, from 0, of the lines of a kind: what it says, and how many bytes it has, with its byte 10.
+pub fn take_line(t: &[u8], kind: Kind, j: usize) -> Option<(Entry, usize)>
+    ensures { result ≡ entry_taken kind j t.now }
 {
     match kind {
         Kind::Level(resistance) => {
@@ -49,13 +50,18 @@ pub fn take_line(t: &[u8], kind: Kind, i: usize) -> Option<(Entry, usize)>
             Some((Entry::Level(power), n))
         }
         Kind::Change(p) => {
-            let range = line_kinds::cost_range(p, i);
+            let range = line_kinds::cost_range(p, j);
             let ([time, energy], n) = take_numbers(t, b'S', [range, range])?;
-            Some((Entry::Change(time, energy), n))
+            Some((Entry::Change(p, Change { time, energy }), n))
         }
-        Kind::Work => {
+        Kind::Work(i) => {
             let ([time, energy, decay], n) = take_numbers(t, b'B', [JOB_TIME, COST, DECAY])?;
-            Some((Entry::Work(time, energy, decay), n))
+            let work = Work {
+                time,
+                energy,
+                decay,
+            };
+            Some((Entry::Work(i, work), n))
         }
     }
 }

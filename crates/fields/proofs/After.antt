@@ -7,13 +7,13 @@ use Rattle.fields.specs.Fields.{after}
 use Rattle.fields.specs.declared.Fault.{Fault}
 
 -- What holds after a line.
-pub after_cases : {A X : Type 0} (P : X → Type 0) (r : Result A Fault) (stop : Fault → X) (go : A → X) →
-    ((f : Fault) → r ≡ Err f → P (stop f)) → ((a : A) → r ≡ Ok a → P (go a)) → P (after r stop go)
+pub after_cases : {A E X : Type 0} (P : X → Type 0) (r : Result A E) (stop : E → X) (go : A → X) →
+    ((f : E) → r ≡ Err f → P (stop f)) → ((a : A) → r ≡ Ok a → P (go a)) → P (after r stop go)
 after_cases P (Ok a) stop go f g = g a refl
 after_cases P (Err e) stop go f g = f e refl
 
 -- What a line says, where what is made of it says something.
-pub after_ok : {A B : Type 0} (r : Result A Fault) (go : A → Result B Fault) (b : B) → after r Err go ≡ Ok b → (a : A) × (r ≡ Ok a) × (go a ≡ Ok b)
+pub after_ok : {A B E : Type 0} (r : Result A E) (go : A → Result B E) (b : B) → after r Err go ≡ Ok b → (a : A) × (r ≡ Ok a) × (go a ≡ Ok b)
 after_ok (Ok a) go b e = (a, refl, e)
 after_ok (Err f) go b e = absurd cc
 

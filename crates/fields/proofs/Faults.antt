@@ -27,9 +27,6 @@ abbrev pub FieldLe : {A : Type 0} → Result A Fault → Type 0
 FieldLe (Ok a) = Unit {0}
 FieldLe (Err f) = field_in f ≤ 11
 
-pub field_le : {A : Type 0} (r : Result A Fault) (f : Fault) → r ≡ Err f → FieldLe r → field_in f ≤ 11
-field_le r f e h = subst FieldLe e h
-
 -- What is made of a line names no field of its own.
 pub after_field : {A B : Type 0} (r : Result A Fault) (go : A → Result B Fault) → FieldLe r → ((a : A) → r ≡ Ok a → FieldLe (go a)) → FieldLe (after r Err go)
 after_field r go h g = after_cases FieldLe r Err go (λ f e. subst FieldLe e h) g

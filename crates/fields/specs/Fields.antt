@@ -19,8 +19,8 @@ pub record Fields : Type 0 where
   pub values : List ℕ
   pub rest : List ℕ
 
--- What follows a line: what is made of its fault, or what comes next with what it says.
-abbrev pub after : {A X : Type 0} → Result A Fault → (Fault → X) → (A → X) → X
+-- What follows a line, or lines: what is made of the fault, or what comes next with what they say.
+abbrev pub after : {A E X : Type 0} → Result A E → (E → X) → (A → X) → X
 after (Ok a) stop go = go a
 after (Err f) stop go = stop f
 

@@ -27,7 +27,8 @@ pub struct Numbers<'a, const N: usize> {
     pub rest: &'a [u8],
 }
 
-// Whether a line's first field is the letter and k fields come after it.
+// Whether a line's first field is the letter and k fields come after it. Each call names its letter, so that a type of letters, none of
+// which is byte 9, would say no more.
 pub fn opens_with(line: Line, letter: u8, k: usize) -> bool
     requires { 65 ≤ letter }
     ensures { result ≡ opens letter k line.entry.bytes.now }
@@ -78,6 +79,7 @@ pub fn read_fields<const N: usize>(
     if !opens_with(line, letter, N) {
         return Err(Fault::Shape);
     }
+    // No `?`: the borrow checker does not cover it where a value with a slice is taken apart for any N.
     match read_numbers(text::behind(line.bytes, 1), 0, ranges) {
         Ok(numbers) => Ok(numbers.values),
         Err(fault) => Err(fault),

@@ -5,31 +5,28 @@ ghost use Rattle.frame.specs.Table.{need, filled};
 ghost use Rattle.store.specs.Store.{changes_max};
 ghost use Rattle.table.specs.Table.{base};
 ghost use Rattle.table.specs.Problem.{sheet_for};
-ghost use Rattle.one_level.specs.Level.{scratch_size};
-ghost use Rattle.relax.specs.Levels.{Scratch};
 ghost use Rattle.fill.specs.Layer.{FilledFrom};
 
-use one_level::PART_SIZE;
 use open_ways::{Layer, Move, NO_MOVE};
+use relax::PART_SIZE;
 use store::{CHANGES_MAX, LEVELS_MAX};
 use table::Problem;
 
-// Scratch for the words that are worked on at once of every level that there can be.
-const SCRATCH_SIZE: usize = PART_SIZE * LEVELS_MAX;
-
-// Works out the words of job i: what follows each level, and then the least over the moves to it.
-fn fill_job(problem: &Problem, table: &mut [u32], moves: &mut [Move], part: &mut [u32], i: u32)
+// Works out the words of job i: what follows each level, and then the least over the moves to it. What `part` then holds is open.
+fn fill_job(
+    problem: &Problem,
+    table: &mut [u32],
+    moves: &mut [Move],
+    part: &mut [[u32; PART_SIZE]; LEVELS_MAX],
+    i: u32,
+)
     requires { let s = sheet_for problem.now in record {
       room : need s ≤ length table.old;
       job : i < s.jobs;
       next : FilledFrom s (base s (suc i) 0) table.old table.old;
       moves_room : changes_max ≤ length moves.old;
-      scratch : scratch_size ≤ length part.old;
     } }
-    ensures { let s = sheet_for problem.now in record {
-      filled : FilledFrom s (base s i 0) table.old table.new;
-      scratch : Scratch part.old part.new;
-    } }
+    ensures { let s = sheet_for problem.now in FilledFrom s (base s i 0) table.old table.new }
 {
     let levels = problem.frame.head.levels as usize;
     let cells = problem.frame.energy_cells * problem.frame.temperature_cells;
@@ -51,7 +48,7 @@ pub fn fill(problem: &Problem, table: &mut [u32])
     ensures { table.new ≡ filled (sheet_for problem.now) table.old }
 {
     let mut moves = [NO_MOVE; CHANGES_MAX];
-    let mut part = [0u32; SCRATCH_SIZE];
+    let mut part = [[0u32; PART_SIZE]; LEVELS_MAX];
     for i in (0..problem.frame.head.jobs).rev() {
         fill_job(problem, table, &mut moves, &mut part, i);
     }

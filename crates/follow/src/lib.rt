@@ -13,6 +13,7 @@ use table::Problem;
 
 // Writes what follows job i at level j in the place of that level's words. The map of temperature cells stands in the last row
 // until that row is written itself.
+// Job and level are plain numbers, bounded in the contract: each call has others, and a type for them would have to hold their sheet.
 fn expand_level(problem: &Problem, table: &mut [u32], i: u32, j: u32)
     requires { let s = sheet_for problem.now in record {
       room : need s ≤ length table.old;
@@ -27,7 +28,8 @@ fn expand_level(problem: &Problem, table: &mut [u32], i: u32, j: u32)
     let levels = problem.frame.head.levels as usize;
     let at = (i as usize * levels + j as usize) * count * width;
     let rows = Rows { at, count, width };
-    map_cells(problem, table, i, j, rows.last_row());
+    let last = rows.last_row();
+    map_cells(problem, &mut table[last..last + width], i, j);
     if i + 1 < problem.frame.head.jobs {
         expand::gather_rows(table, rows, at + levels * count * width);
     } else {

@@ -38,8 +38,8 @@ count_ranges = from_to 1 jobs_max ∷ from_to 1 levels_max ∷ []
 -- to 20,000), resistance R (0 to 20,000), energy grain g (1 to 2,000,000,000), temperature grain h (1 to 20,000)"; the start
 -- level's range depends on l.
 abbrev pub other_ranges : ℕ → List Range
-other_ranges startLevelMax =
-    from_to 0 startLevelMax ∷ from_to 0 limit_max ∷ from_to 0 limit_max ∷ from_to 0 temperature_max ∷ from_to 0 temperature_max
+other_ranges start_level_max =
+    from_to 0 start_level_max ∷ from_to 0 limit_max ∷ from_to 0 limit_max ∷ from_to 0 temperature_max ∷ from_to 0 temperature_max
     ∷ from_to 0 resistance_max ∷ from_to 1 limit_max ∷ from_to 1 temperature_max ∷ []
 
 -- The others, behind m and l, of the rest t of the line.

@@ -2,7 +2,7 @@
 
 // The first two lines of a sheet, V and H: their figures, or the first fault of a line.
 ghost use Rattle.std.specs.Prelude.{◌≡◌};
-ghost use Rattle.head.specs.Head.{version_fields, head_fields};
+ghost use Rattle.head.specs.Head.{head_as, version_fields, head_fields};
 
 use fields::{Fault, Range};
 use store::{Head, JOBS_MAX, LEVELS_MAX, LIMIT_MAX, RESISTANCE_MAX, TEMPERATURE_MAX};
@@ -53,6 +53,36 @@ pub fn read_version(line: Line) -> Result<u32, Fault>
     Ok(version)
 }
 
+// The figures of the V line and of the H line by their names.
+pub fn head_of(version: u32, counts: [u32; 2], others: [u32; 8]) -> Head
+    ensures { result ≡ head_as version counts others }
+{
+    let [jobs, levels] = counts;
+    let [
+        start_level,
+        deadline,
+        energy_budget,
+        temperature_limit,
+        start_temperature,
+        resistance,
+        energy_step,
+        temperature_step,
+    ] = others;
+    Head {
+        version,
+        jobs,
+        levels,
+        start_level,
+        deadline,
+        energy_budget,
+        temperature_limit,
+        start_temperature,
+        resistance,
+        energy_step,
+        temperature_step,
+    }
+}
+
 // Reads the numbers of an H line on a sheet of a version: the start level is below the number of levels.
 pub fn read_head(line: Line, version: u32) -> Result<Head, Fault>
     ensures { result ≡ head_fields version line.entry.bytes.now }
@@ -61,7 +91,7 @@ pub fn read_head(line: Line, version: u32) -> Result<Head, Fault>
         return Err(Fault::Shape);
     }
     let counts = fields::read_numbers(text::behind(line.bytes, 1), 0, [JOBS, LEVELS])?;
-    let [jobs, levels] = counts.values;
+    let [_, levels] = counts.values;
     let start = Range {
         least: 0,
         most: levels.saturating_sub(1),
@@ -77,27 +107,5 @@ pub fn read_head(line: Line, version: u32) -> Result<Head, Fault>
         TEMPERATURE_STEP,
     ];
     let others = fields::read_numbers(counts.rest, 2, ranges)?;
-    let [
-        start_level,
-        deadline,
-        energy_budget,
-        temperature_limit,
-        start_temperature,
-        resistance,
-        energy_step,
-        temperature_step,
-    ] = others.values;
-    Ok(Head {
-        version,
-        jobs,
-        levels,
-        start_level,
-        deadline,
-        energy_budget,
-        temperature_limit,
-        start_temperature,
-        resistance,
-        energy_step,
-        temperature_step,
-    })
+    Ok(head_of(version, counts.values, others.values))
 }

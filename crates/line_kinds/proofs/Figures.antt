@@ -1,14 +1,12 @@
--- Laws of lines by their kind, and of their places in the store: what each test of the reader says.
+-- Laws of lines by their kind: what each test of the reader says, and that the store has a place for what they say.
 -- Assumes nothing.
 use mathlib.Core.Path.{◌≡◌, refl}
 use mathlib.Core.List.{List, [], ◌∷◌}
 use Prim.Native.Nat.{ℕ, ◌≤◌, ◌<◌}
-use native.Mathlib.Omega.{arith}
 use lib.Dec.{ltb}
-use lib.ListN.{length, get_or, length-set}
+use lib.ListN.{get_or}
 use borrow.Author.Tests.{lt-ltb, le-ltb}
 use Rattle.std.specs.Prelude.{Ok, Err}
-use Rattle.store.specs.Store.{works_max}
 use Rattle.thermal.specs.Thermal.{steady_state}
 use Rattle.fields.specs.Fields.{fields_of}
 use Rattle.fields.specs.declared.Fault.{Fault}
@@ -20,9 +18,14 @@ use Rattle.line_kinds.specs.declared.Kind.TheVariants.{Level, Change, Work}
 use Rattle.line_kinds.specs.declared.Entry.{Entry}
 use Rattle.line_kinds.specs.declared.Entry.TheVariants.{Level as LevelEntry, Change as ChangeEntry, Work as WorkEntry}
 use Rattle.frame.specs.Sheet.{temperature_max}
-use Rattle.line_kinds.specs.Figures.{cost_range, level_ranges, change_ranges, work_ranges, steady_fields, level_fields, change_fields, work_fields, fields_for, put, places_of, places_for}
+use Rattle.line_kinds.specs.Figures.{cost_range, level_ranges, change_ranges, work_ranges, steady_fields, level_fields, change_fields, work_fields, fields_for, KindPlace, HasPlace}
 
--- ---- one line
+-- What the numbers of an S line and of a B line say.
+abbrev pub change_entry : ℕ → List ℕ → Entry
+change_entry p vs = ChangeEntry p (record { time = get_or vs 0 0; energy = get_or vs 1 0 })
+
+abbrev pub work_entry : ℕ → List ℕ → Entry
+work_entry i vs = WorkEntry i (record { time = get_or vs 0 0; energy = get_or vs 1 0; decay = get_or vs 2 0 })
 
 module _ (resistance : ℕ) (line : List ℕ) where
   pub level_other : (f : Fault) → fields_of 76 level_ranges line ≡ Err f → Err f ≡ level_fields resistance line
@@ -40,7 +43,7 @@ module _ (resistance : ℕ) (line : List ℕ) where
 
 module _ (kind : Kind) (j : ℕ) (line : List ℕ) where
   module _ (p : ℕ) (k : kind ≡ Change p) (range : Range) (r : range ≡ cost_range p j) where
-    pub for_change : (vs : List ℕ) → fields_of 83 (range ∷ range ∷ []) line ≡ Ok vs → Ok (ChangeEntry (get_or vs 0 0) (get_or vs 1 0)) ≡ fields_for kind j line
+    pub for_change : (vs : List ℕ) → fields_of 83 (range ∷ range ∷ []) line ≡ Ok vs → Ok (change_entry p vs) ≡ fields_for kind j line
     unfolding fields_for change_fields
     for_change vs e = rw (k, ← r, e) refl
 
@@ -48,42 +51,28 @@ module _ (kind : Kind) (j : ℕ) (line : List ℕ) where
     unfolding fields_for change_fields
     for_change_fault f e = rw (k, ← r, e) refl
 
-  pub for_work : kind ≡ Work → (vs : List ℕ) → fields_of 66 work_ranges line ≡ Ok vs →
-      Ok (WorkEntry (get_or vs 0 0) (get_or vs 1 0) (get_or vs 2 0)) ≡ fields_for kind j line
-  unfolding fields_for work_fields
-  for_work k vs e = rw (k, e) refl
+  module _ (i : ℕ) (k : kind ≡ Work i) where
+    pub for_work : (vs : List ℕ) → fields_of 66 work_ranges line ≡ Ok vs → Ok (work_entry i vs) ≡ fields_for kind j line
+    unfolding fields_for work_fields
+    for_work vs e = rw (k, e) refl
 
-  pub for_work_fault : kind ≡ Work → (f : Fault) → fields_of 66 work_ranges line ≡ Err f → Err f ≡ fields_for kind j line
-  unfolding fields_for work_fields
-  for_work_fault k f e = rw (k, e) refl
+    pub for_work_fault : (f : Fault) → fields_of 66 work_ranges line ≡ Err f → Err f ≡ fields_for kind j line
+    unfolding fields_for work_fields
+    for_work_fault f e = rw (k, e) refl
 
--- What a line of a kind says is of that kind.
-pub entry_places : (kind : Kind) (j : ℕ) (line : List ℕ) (entry : Entry) → fields_for kind j line ≡ Ok entry → places_for entry ≡ places_of kind
+-- What a line says is of a level or a job that a store has a place for, as the lines of its kind are.
+pub entry_place : (kind : Kind) (j : ℕ) (line : List ℕ) (entry : Entry) → fields_for kind j line ≡ Ok entry → KindPlace kind → HasPlace entry
 unfolding fields_for level_fields steady_fields change_fields work_fields
-entry_places (Level resistance) j line entry e =
+entry_place (Level resistance) j line entry e k =
     let a = after_ok (fields_of 76 level_ranges line) _ entry e in
     let b = cond_fault (ltb temperature_max (steady_state (get_or a.0 0 0) resistance)) (Ok (LevelEntry (get_or a.0 0 0))) (OutOfRange 2) entry a.2 in
     let q : entry ≡ LevelEntry (get_or a.0 0 0) = cc in
-    rw q refl
-entry_places (Change p) j line entry e =
+    rw q k
+entry_place (Change p) j line entry e k =
     let a = after_ok (fields_of 83 (change_ranges p j) line) _ entry e in
-    let q : entry ≡ ChangeEntry (get_or a.0 0 0) (get_or a.0 1 0) = cc in
-    rw q refl
-entry_places Work j line entry e =
+    let q : entry ≡ change_entry p a.0 = cc in
+    rw q k
+entry_place (Work i) j line entry e k =
     let a = after_ok (fields_of 66 work_ranges line) _ entry e in
-    let q : entry ≡ WorkEntry (get_or a.0 0 0) (get_or a.0 1 0) (get_or a.0 2 0) = cc in
-    rw q refl
-
--- ---- places in the store
-
--- Putting what a line says keeps the store's length.
-pub put_length : (k : ℕ) (entry : Entry) (st : List ℕ) → length (put k entry st) ≡ length st
-unfolding put
-put_length k (LevelEntry power) st = simp length-set
-put_length k (ChangeEntry time energy) st = simp length-set
-put_length k (WorkEntry time energy decay) st = simp length-set
-
-pub places_most : (kind : Kind) → places_of kind ≤ works_max
-places_most (Level resistance) = omega arith
-places_most (Change p) = omega arith
-places_most Work = omega arith
+    let q : entry ≡ work_entry i a.0 = cc in
+    rw q k

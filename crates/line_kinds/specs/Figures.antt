@@ -1,9 +1,10 @@
 -- A line of numbers, by its kind, and where its figures go (document 01, 'The sheet'): "L, power P", "S, time, energy of a change",
 -- "B, time .., energy .., decay ..".
 -- Assumes nothing.
-use Rattle.std.specs.Prelude.{◌≡◌, cond, List, [], ◌∷◌, ℕ, ◌+◌, ◌<◌, eqb, ltb, length, get_or, set, Result, Ok, Err}
+use Rattle.std.specs.Prelude.{⊤, cond, List, [], ◌∷◌, ℕ, ◌<◌, eqb, ltb, get_or, set, Result, Ok, Err}
 use Rattle.frame.specs.Sheet.{temperature_max, power_max, cost_max, decay_max}
-use Rattle.store.specs.Store.{levels_max, changes_max, works_max, powers, change_times, change_energies, job_times, job_energies, decays, store_size}
+use Rattle.store.specs.Store.{jobs_max, levels_max}
+use Rattle.store.specs.declared.Store.{Store}
 use Rattle.thermal.specs.Thermal.{steady_state}
 use Rattle.fields.specs.Fields.{from_to, fields_of, after}
 use Rattle.fields.specs.declared.Fault.{Fault}
@@ -38,37 +39,34 @@ level_fields resistance line = after (fields_of 76 level_ranges line) Err (λ vs
 
 -- "S, time, energy of a change (each 0 to 10,000,000)"; S is byte 83
 unfoldable pub change_fields : ℕ → ℕ → List ℕ → Result Entry Fault
-change_fields p j line = after (fields_of 83 (change_ranges p j) line) Err (λ vs. Ok (ChangeEntry (get_or vs 0 0) (get_or vs 1 0)))
+change_fields p j line = after (fields_of 83 (change_ranges p j) line) Err (λ vs. Ok (ChangeEntry p (record { time = get_or vs 0 0; energy = get_or vs 1 0 })))
 
 -- "B, time (1 to 10,000,000), energy (0 to 10,000,000), decay (0 to 65,536)"; B is byte 66
-unfoldable pub work_fields : List ℕ → Result Entry Fault
-work_fields line = after (fields_of 66 work_ranges line) Err (λ vs. Ok (WorkEntry (get_or vs 0 0) (get_or vs 1 0) (get_or vs 2 0)))
+unfoldable pub work_fields : ℕ → List ℕ → Result Entry Fault
+work_fields i line =
+    after (fields_of 66 work_ranges line) Err (λ vs. Ok (WorkEntry i (record { time = get_or vs 0 0; energy = get_or vs 1 0; decay = get_or vs 2 0 })))
 
 -- Line j, from 0, of the lines of a kind.
 unfoldable pub fields_for : Kind → ℕ → List ℕ → Result Entry Fault
 fields_for (Level resistance) j line = level_fields resistance line
 fields_for (Change p) j line = change_fields p j line
-fields_for Work j line = work_fields line
+fields_for (Work i) j line = work_fields i line
 
--- The store with what a line says put in place k.
-unfoldable pub put : ℕ → Entry → List ℕ → List ℕ
-put k (LevelEntry power) st = set st (powers + k) power
-put k (ChangeEntry time energy) st = set (set st (change_times + k) time) (change_energies + k) energy
-put k (WorkEntry time energy decay) st = set (set (set st (job_times + k) time) (job_energies + k) energy) (decays + k) decay
+-- The store with what line j says put in its place.
+unfoldable pub put : ℕ → Entry → Store → Store
+put j (LevelEntry power) st = record { powers = set st.powers j power; changes = st.changes; works = st.works }
+put j (ChangeEntry p change) st =
+    record { powers = st.powers; changes = set st.changes p (set (get_or st.changes p []) j change); works = st.works }
+put j (WorkEntry i work) st = record { powers = st.powers; changes = st.changes; works = set st.works i (set (get_or st.works i []) j work) }
 
--- How many places the store has for a kind.
-abbrev pub places_of : Kind → ℕ
-places_of (Level resistance) = levels_max
-places_of (Change p) = changes_max
-places_of Work = works_max
+-- The lines of a kind are those of a level or a job that a store has a place for.
+abbrev pub KindPlace : Kind → Type 0
+KindPlace (Level resistance) = ⊤
+KindPlace (Change p) = p < levels_max
+KindPlace (Work i) = i < jobs_max
 
 -- The same for what a line says.
-abbrev pub places_for : Entry → ℕ
-places_for (LevelEntry power) = levels_max
-places_for (ChangeEntry time energy) = changes_max
-places_for (WorkEntry time energy decay) = works_max
-
--- Place k is one for what a line says, in a store of all figures.
-pub record PlaceIn (entry : Entry) (k : ℕ) (st : List ℕ) : Type 0 where
-  pub place : k < places_for entry
-  pub long : length st ≡ store_size
+abbrev pub HasPlace : Entry → Type 0
+HasPlace (LevelEntry power) = ⊤
+HasPlace (ChangeEntry p change) = p < levels_max
+HasPlace (WorkEntry i work) = i < jobs_max

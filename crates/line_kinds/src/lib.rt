@@ -1,29 +1,28 @@
 #![tactic(auto)]
 
-ghost use Rattle.std.specs.Prelude.{◌≡◌};
-ghost use Rattle.line_kinds.specs.Figures.{cost_range, level_fields, fields_for, put, PlaceIn};
+ghost use Rattle.std.specs.Prelude.{◌≡◌, ◌<◌};
+ghost use Rattle.store.specs.Store.{levels_max};
+ghost use Rattle.line_kinds.specs.Figures.{cost_range, level_fields, fields_for, put, HasPlace};
 
 use fields::{Fault, Range};
-use store::{
-    CHANGE_ENERGIES, CHANGE_TIMES, COST_MAX, DECAY_MAX, DECAYS, JOB_ENERGIES, JOB_TIMES, POWER_MAX,
-    POWERS, TEMPERATURE_MAX,
-};
+use store::{COST_MAX, Change, DECAY_MAX, POWER_MAX, Store, TEMPERATURE_MAX, Work};
 use text::Line;
 
-// Which lines: L, with the sheet's thermal resistance; S, of the changes from a level; B.
+// Which lines: L, with the sheet's thermal resistance; S, of the changes from a level; B, of a job. An enum and no trait: one loop reads
+// and puts all three, and a type for each would put three copies of it into mask memory.
 #[derive(Clone, Copy)]
 pub enum Kind {
     Level(u32),
     Change(usize),
-    Work,
+    Work(usize),
 }
 
-// What a line says: the power of a level; the time and the energy of a change; the time, the energy and the decay of a job.
+// What a line says: the power of a level; the cost of a change, with the level left; what a job takes, with the job.
 #[derive(Clone, Copy)]
 pub enum Entry {
     Level(u32),
-    Change(u32, u32),
-    Work(u32, u32, u32),
+    Change(usize, Change),
+    Work(usize, Work),
 }
 
 // The steady-state temperature "must be at most 20,000".
@@ -62,48 +61,50 @@ fn read_level(line: Line, resistance: u32) -> Result<Entry, Fault>
     Ok(Entry::Level(power))
 }
 
-// The range of the time and of the energy of a change from level p to level i: "From a level to itself both must be 0".
-pub fn cost_range(p: usize, i: usize) -> Range
-    ensures { result ≡ cost_range p i }
+// The range of the time and of the energy of a change from level p to level j: "From a level to itself both must be 0".
+pub fn cost_range(p: usize, j: usize) -> Range
+    ensures { result ≡ cost_range p j }
 {
-    if i == p { NO_COST } else { COST }
+    if j == p { NO_COST } else { COST }
 }
 
-// Reads line i, from 0, of the lines of a kind.
-pub fn read_line(line: Line, kind: Kind, i: usize) -> Result<Entry, Fault>
-    ensures { result ≡ fields_for kind i line.entry.bytes.now }
+// Reads line j, from 0, of the lines of a kind.
+pub fn read_line(line: Line, kind: Kind, j: usize) -> Result<Entry, Fault>
+    ensures { result ≡ fields_for kind j line.entry.bytes.now }
 {
     match kind {
         Kind::Level(resistance) => read_level(line, resistance),
         Kind::Change(p) => {
-            let range = cost_range(p, i);
+            let range = cost_range(p, j);
             let [time, energy] = fields::read_fields(line, b'S', [range, range])?;
-            Ok(Entry::Change(time, energy))
+            Ok(Entry::Change(p, Change { time, energy }))
         }
-        Kind::Work => {
+        Kind::Work(i) => {
             let [time, energy, decay] = fields::read_fields(line, b'B', [JOB_TIME, COST, DECAY])?;
-            Ok(Entry::Work(time, energy, decay))
+            let work = Work {
+                time,
+                energy,
+                decay,
+            };
+            Ok(Entry::Work(i, work))
         }
     }
 }
 
-// Puts what a line says in place k of the store of figures.
-pub fn put_entry(store: &mut [u32], k: usize, entry: Entry)
-    requires { PlaceIn entry k store.old }
-    ensures { store.new ≡ put k entry store.old }
+// Puts what line j says in the store.
+pub fn put_entry(store: &mut Store, j: usize, entry: Entry)
+    requires { (j < levels_max) × HasPlace entry }
+    ensures { store.new ≡ put j entry store.old }
 {
     match entry {
         Entry::Level(power) => {
-            store[POWERS + k] = power;
+            store.powers[j] = power;
         }
-        Entry::Change(time, energy) => {
-            store[CHANGE_TIMES + k] = time;
-            store[CHANGE_ENERGIES + k] = energy;
+        Entry::Change(p, change) => {
+            store.changes[p][j] = change;
         }
-        Entry::Work(time, energy, decay) => {
-            store[JOB_TIMES + k] = time;
-            store[JOB_ENERGIES + k] = energy;
-            store[DECAYS + k] = decay;
+        Entry::Work(i, work) => {
+            store.works[i][j] = work;
         }
     }
 }

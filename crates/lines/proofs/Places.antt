@@ -1,23 +1,27 @@
 -- Where the reading of a block of lines stops: its line, and the field of its fault.
 -- Assumes nothing.
+use mathlib.Core.Path.{◌≡◌}
 use mathlib.Core.List.{List}
 use Prim.Native.Nat.{ℕ, zero, suc, ◌+◌, ◌≤◌}
 use native.Mathlib.Omega.{arith}
 use lib.Dec.{ltb}
 use lib.ListN.{get_or}
-use Rattle.std.specs.Prelude.{Option, Some, None}
-use Rattle.text.specs.Text.{until, beyond, ahead}
+use Rattle.std.specs.Prelude.{Ok, Err}
+use Rattle.text.specs.Text.{until}
 use Rattle.thermal.specs.Thermal.{steady_state}
-use Rattle.fields.specs.declared.Fault.{Fault}
 use Rattle.fields.specs.Fields.{fields_of}
 use Rattle.fields.proofs.Within.{cond_cases}
 use Rattle.fields.proofs.After.{after_cases}
-use Rattle.fields.proofs.Faults.{field_in, FieldLe, fields_field, after_field, field_le}
+use Rattle.fields.proofs.Faults.{field_in, FieldLe, fields_field, after_field}
+use Rattle.frame.specs.Sheet.{temperature_max}
+use Rattle.store.specs.declared.Store.{Store}
 use Rattle.line_kinds.specs.declared.Kind.{Kind}
 use Rattle.line_kinds.specs.declared.Kind.TheVariants.{Level, Change, Work}
-use Rattle.frame.specs.Sheet.{temperature_max}
 use Rattle.line_kinds.specs.Figures.{level_ranges, change_ranges, work_ranges, steady_fields, level_fields, change_fields, work_fields, fields_for, put}
-use Rattle.lines.specs.Lines.{Found, block_from}
+use Rattle.reading.specs.declared.LineFault.{LineFault}
+use Rattle.reading.specs.Rest.{Rest, next_by}
+use Rattle.reading.proofs.Next.{line_read, line_fault}
+use Rattle.lines.specs.Lines.{Found, stop, block_from}
 
 -- A line of a kind.
 for_field : (kind : Kind) (j : ℕ) (line : List ℕ) → FieldLe (fields_for kind j line)
@@ -26,26 +30,39 @@ for_field (Level resistance) j line =
     after_field (fields_of 76 level_ranges line) _ (fields_field 76 level_ranges line (omega arith))
     (λ vs e. cond_cases FieldLe (ltb temperature_max (steady_state (get_or vs 0 0) resistance)) _ _ (λ c. omega arith) (λ c. tt))
 for_field (Change p) j line = after_field (fields_of 83 (change_ranges p j) line) _ (fields_field 83 (change_ranges p j) line (omega arith)) (λ vs e. tt)
-for_field Work j line = after_field (fields_of 66 work_ranges line) _ (fields_field 66 work_ranges line (omega arith)) (λ vs e. tt)
+for_field (Work i) j line = after_field (fields_of 66 work_ranges line) _ (fields_field 66 work_ranges line (omega arith)) (λ vs e. tt)
 
--- The field that the fault of lines names; 0 where there is none.
-abbrev pub field_of : Option Fault → ℕ
-field_of None = 0
-field_of (Some f) = field_in f
-
--- The reading stopped at line `most` at the latest, with a fault of field 11 at the latest.
+-- The reading stopped at line `most` at the latest, and a fault is of field 11 at the latest.
 pub record Placed (most : ℕ) (f : Found) : Type 0 where
-  pub line : f.line ≤ most
-  pub field : field_of f.fault ≤ 11
+  pub line : (r : Rest) → f.read ≡ Ok r → r.line ≤ most
+  pub fault : (e : LineFault) → f.read ≡ Err e → (e.line ≤ most) × (field_in e.fault ≤ 11)
 
--- A block of n lines from line ln on.
-pub block_placed : (kind : Kind) (b n j : ℕ) (t : List ℕ) (ln : ℕ) (st : List ℕ) → Placed (ln + n) (block_from kind b n j t ln st)
+module _ (most : ℕ) (st : Store) where
+  -- It stopped behind sound lines.
+  pub placed_end : (r : Rest) → r.line ≤ most → Placed most (record { read = Ok r; store = st })
+  placed_end r h =
+      record {
+        line = λ q e. let p : r ≡ q = cc in rw (← p) h;
+        fault = λ q e. absurd cc;
+      }
+
+  -- It stopped at a fault.
+  pub placed_stop : (f : LineFault) → f.line ≤ most → field_in f.fault ≤ 11 → Placed most (stop st f)
+  placed_stop f h k =
+      record {
+        line = λ q e. absurd cc;
+        fault = λ q e. let p : f ≡ q = cc in rw (← p) (h, k);
+      }
+
+-- A block of n lines.
+pub block_placed : (kind : Kind) (n j : ℕ) (r : Rest) (st : Store) → Placed (r.line + n) (block_from kind n j r st)
 unfolding block_from
-block_placed kind b zero j t ln st = record { line = omega arith; field = omega arith }
-block_placed kind b (suc n) j t ln st =
-    let P = Placed (ln + suc n) in
-    cond_cases P (ahead 10 t) _ _
-    (λ a. after_cases P (fields_for kind j (until 10 t)) _ _
-    (λ f e. record { line = omega arith; field = field_le (fields_for kind j (until 10 t)) f e (for_field kind j (until 10 t)) })
-    (λ entry e. let h = block_placed kind b n (j + 1) (beyond 10 t) (ln + 1) (put (b + j) entry st) in record { line = omega (arith, h.line); field = h.field }))
-    (λ a. record { line = omega arith; field = omega arith })
+block_placed kind zero j r st = placed_end _ st r (omega arith)
+block_placed kind (suc n) j r st =
+    after_cases (Placed (r.line + suc n)) (next_by (fields_for kind j) r) _ _
+    (λ f e. let p = line_fault (fields_for kind j) r f (for_field kind j (until 10 r.text)) e in placed_stop _ st f (omega (arith, p.line)) p.field)
+    (λ line e.
+    let next = block_placed kind n (j + 1) line.1 (put j line.0 st) in
+    let p = line_read (fields_for kind j) r line e in
+    let q : line.1.line + n ≡ r.line + suc n = rw p.rest (omega arith) in
+    rw q at next)

@@ -1,83 +1,40 @@
 #![tactic(auto)]
 
-ghost use Rattle.std.specs.Prelude.{◌≡◌, ◌+◌, ◌<◌, ◌≤◌, length, drop};
-ghost use Rattle.store.specs.Store.{store_size};
-ghost use Rattle.line_kinds.specs.Figures.{places_of};
-ghost use Rattle.lines.specs.Lines.{count_end, block_from, Reads};
-ghost use Rattle.lines.specs.Take.{taken_from, took_in};
+ghost use Rattle.std.specs.Prelude.{◌≡◌, ◌≤◌};
+ghost use Rattle.store.specs.Store.{levels_max};
+ghost use Rattle.reading.specs.Rest.{rest_of, read_to, next_by};
+ghost use Rattle.line_kinds.specs.Figures.{fields_for, KindPlace};
+ghost use Rattle.lines.specs.Lines.{block_from, found_in};
 
-use fields::Fault;
-use line_kinds::Kind;
+use line_kinds::{Entry, Kind};
+use reading::{LineFault, Place};
+use store::Store;
 
-// Where the reading of lines stopped: at which fault or none, in which line, counted from 1, and at which place.
-#[derive(Drop)]
-pub struct Stop {
-    pub fault: Option<Fault>,
-    pub line: usize,
-    pub at: usize,
-}
-
-// How many lines of a block were taken, and where the next line starts.
-#[derive(Drop)]
-struct Progress {
-    lines: usize,
-    at: usize,
-}
-
-// Takes the lines of a block of n lines of a kind, the first of which starts at `at`, up to one that is not taken.
-fn take_lines(s: &[u8], at: usize, kind: Kind, base: usize, n: usize, store: &mut [u32]) -> Progress
-    requires { (at ≤ length s.now) × (base + n ≤ places_of kind) × (length store.old ≡ store_size) }
-    ensures { took_in result store.new ≡ taken_from kind base n 0 s.now at store.old }
+// Reads line j, from 0, of the lines of a kind: in one pass where that takes it, else field by field.
+fn read_line(place: Place<'_>, kind: Kind, j: usize) -> Result<(Entry, Place<'_>), LineFault>
+    ensures { read_to result ≡ next_by (fields_for kind j) (rest_of place.entry) }
 {
-    let mut p = at;
-    for j in 0..n {
-        let Some((entry, length)) = fast_lines::take_line(&s[p..], kind, j) else {
-            return Progress { lines: j, at: p };
-        };
-        line_kinds::put_entry(store, base + j, entry);
-        p += length;
+    if let Some((entry, n)) = fast_lines::take_line(place.rest, kind, j) {
+        return Ok((entry, place.behind(n)));
     }
-    Progress { lines: n, at: p }
+    place.read(|line| line_kinds::read_line(line, kind, j))
 }
 
-// Reads n lines of a kind from line `line`, which starts at `at`, to the places from `base` on.
-pub fn read_block(
-    s: &[u8],
-    at: usize,
-    line: usize,
+// Reads n lines of a kind to the store: the place behind them.
+pub fn read_block<'a>(
+    start: Place<'a>,
     kind: Kind,
-    base: usize,
     n: usize,
-    store: &mut [u32],
-) -> Stop
-    requires { (at ≤ length s.now) × (line + n < count_end) × (base + n ≤ places_of kind) × (length store.old ≡ store_size) }
-    ensures { Reads s.now (block_from kind base n 0 (drop at s.now) line store.old) (line + n) store.new result }
+    store: &mut Store,
+) -> Result<Place<'a>, LineFault>
+    requires { record { few : n ≤ levels_max; place : KindPlace kind } }
+    ensures { found_in result store.new ≡ block_from kind n 0 (rest_of start.entry) store.old }
 {
-    let usual = take_lines(s, at, kind, base, n, store);
-    let mut p = usual.at;
-    for j in usual.lines..n {
-        let Some(next) = text::next_line(&s[p..]) else {
-            return Stop {
-                fault: Some(Fault::Shape),
-                line: line + j,
-                at: p,
-            };
-        };
-        match line_kinds::read_line(next, kind, j) {
-            Ok(entry) => line_kinds::put_entry(store, base + j, entry),
-            Err(fault) => {
-                return Stop {
-                    fault: Some(fault),
-                    line: line + j,
-                    at: p,
-                };
-            }
-        }
-        p += next.bytes.len() + 1;
+    let mut place = start;
+    for j in 0..n {
+        let (entry, next) = read_line(place, kind, j)?;
+        line_kinds::put_entry(store, j, entry);
+        place = next;
     }
-    Stop {
-        fault: None,
-        line: line + n,
-        at: p,
-    }
+    Ok(place)
 }

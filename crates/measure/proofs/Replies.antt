@@ -11,6 +11,7 @@ use borrow.Author.Tests.{lt-ltb, le-ltb, eq-eqb, ne_eqb}
 use Rattle.frame.specs.Sheet.{Sheet}
 use Rattle.frame.specs.Run.{State, start, exact_run}
 use Rattle.frame.specs.Limits.{margins}
+use Rattle.store.specs.declared.Store.{Store}
 use Rattle.store.specs.Figures.{sheet_of}
 use Rattle.run.proofs.Small.{small_start, small_run}
 use Rattle.std.specs.Prelude.{Result, Ok, Err}
@@ -42,7 +43,7 @@ margins_hold s js a h time energy temperature x y z = rw (x, y, z, h) refl
 
 -- ---- the reply
 
-module _ (t js : List ℕ) (r : Result Head Refusal) (st : List ℕ) (e : read_in r st ≡ reading_of t) where
+module _ (t js : List ℕ) (r : Result Head Refusal) (st : Store) (e : read_in r st ≡ reading_of t) where
   pub measure_refused : (f : Refusal) → r ≡ Err f → turned_away f ≡ measure_of t js
   unfolding measure_of
   measure_refused f h = rw (sym e, h) refl

@@ -8,7 +8,7 @@ ghost use Rattle.measure.specs.Meaning.{Meaning};
 
 use refusal::Refusal;
 use step::Figures;
-use store::{Head, STORE_SIZE};
+use store::{Head, Store};
 
 // The three margins of a list: "A negative margin is a broken limit, 0 is met".
 #[derive(Clone, Copy)]
@@ -26,7 +26,7 @@ fn first_above(levels: &[u8], l: u32) -> Option<usize>
 }
 
 // The margins of a list of levels on a sheet that was read.
-fn margins_of(head: Head, store: &[u32; STORE_SIZE], levels: &[u8]) -> Margins
+fn margins_of(head: Head, store: &Store, levels: &[u8]) -> Margins
     requires { Measurable (sheet_of head store.now) levels.now }
     ensures { measured_by (Ok result) ≡ measured_as (margins (sheet_of head store.now) levels.now) }
 {
@@ -51,7 +51,7 @@ pub fn measure(s: &[u8], levels: &[u8]) -> Result<Margins, Refusal>
     ensures value { measured_by result ≡ measure_of s.now levels.now }
     ensures meaning { Meaning s.now levels.now (measured_by result) }
 {
-    let mut store = [0u32; STORE_SIZE];
+    let mut store = Store::clear();
     let head = sheet::read(s, &mut store)?;
     if levels.len() != head.jobs as usize {
         return Err(Refusal::ListLength);

@@ -27,6 +27,7 @@ fn lawful_rows(f: Frame, energy: u32, up: u32) -> u32
 }
 
 // The move of job i from level p to level j. Its energy is that of the same job from energy 0.
+// Job and levels are plain numbers, bounded in the contract: each call has others, and a type for them would have to hold their sheet.
 fn move_of(problem: &Problem, i: u32, p: u32, j: u32) -> Move
     requires { let s = sheet_for problem.now in record { job : i < s.jobs; left : p < s.levels; entered : j < s.levels } }
     ensures { result ≡ move_of (sheet_for problem.now) i p j }

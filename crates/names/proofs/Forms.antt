@@ -1,32 +1,31 @@
 -- The name of each job of a sheet that is read is of the written form, and every line of the sheet is ended.
 -- Assumes nothing.
 use mathlib.Core.Path.{◌≡◌, refl, ap, sym, ◌∙◌}
-use mathlib.Core.Bool.{true, cond}
+use mathlib.Core.Bool.{true}
 use mathlib.Core.List.{List}
 use Prim.Native.Nat.{ℕ, zero, suc, ◌+◌, ◌*◌, ◌-◌, ◌≤◌, ◌<◌}
 use native.Mathlib.Decide.{dec_lt}
 use native.Mathlib.Omega.{arith}
-use lib.ListN.{length, replicate}
+use lib.ListN.{length}
 use Rattle.text.specs.Text.{until, beyond, ahead}
 use Rattle.fields.specs.Fields.{opens}
 use Rattle.name_lines.specs.Name.{name_max, is_name, name_on, name_fault}
 use Rattle.name_lines.proofs.Name.{name_few}
 use Rattle.fields.specs.declared.Fault.{Fault}
 use Rattle.fields.specs.declared.Fault.TheVariants.{Shape, Form}
-use Rattle.fields.specs.Fields.{after}
+use Rattle.reading.specs.Rest.{Rest, next_by}
+use Rattle.reading.proofs.Next.{line_read}
 use Rattle.lines.specs.Lines.{Found, block_from}
 use Rattle.line_kinds.specs.Figures.{fields_for, put}
 use Rattle.line_kinds.specs.declared.Kind.{Kind}
 use Rattle.line_kinds.specs.declared.Kind.TheVariants.{Level, Change, Work}
-use Rattle.fields.proofs.Within.{cond_cases}
 use Rattle.fields.proofs.After.{after_cases, cond_ok}
-use Rattle.store.specs.Store.{levels_max, store_size}
-use Rattle.body.specs.Body.{onward, changes_from, jobs_from, body_from, body_line, lines_before}
-use Rattle.std.specs.Prelude.{Option, Some, None, Result, Ok}
-use Rattle.std.specs.Option.{option_map_or}
-use Rattle.std.proofs.lemmas.Option.{none-some}
+use Rattle.store.specs.declared.Store.{Store}
+use Rattle.store.specs.Figures.{clear}
+use Rattle.body.specs.Body.{onward, changes_from, jobs_from, body_from, lines_before}
+use Rattle.std.specs.Prelude.{None, Result, Ok}
 use Rattle.sheet.specs.Reading.{reading_of}
-use Rattle.sheet.proofs.Whole.{body_of, Whole, read_whole}
+use Rattle.sheet.proofs.Whole.{behind_head, Whole, read_whole}
 use Rattle.name_places.specs.Place.{skip, next_name}
 use Rattle.name_places.proofs.Place.{skip_add}
 use Rattle.names.specs.Name.{name_at, name_of}
@@ -64,48 +63,46 @@ passed_add {a} {b} {t} p q =
       rest = q.rest ∙ ap (skip b) p.rest ∙ sym (skip_add a b t);
     }
 
--- ---- what holds of lines that are sound to the end
+-- ---- lines that are sound to the end
 
--- A line, and what is found after it.
-line_sound : {A : Type 0} (P : Found → Type 0) (t : List ℕ) (ln : ℕ) (st : List ℕ) (r : Result A Fault) (go : A → Found) →
-    ((a : A) → ahead 10 t ≡ true → r ≡ Ok a → (go a).fault ≡ None → P (go a)) →
-    let found = cond (ahead 10 t) (after r (λ f. record { fault = Some f; line = ln; rest = t; store = st }) go) (record { fault = Some Shape; line = ln; rest = t; store = st }) in
-    found.fault ≡ None → P found
-line_sound P t ln st r go h =
-    let Q : Found → Type 0 = λ f. f.fault ≡ None → P f in
-    cond_cases Q (ahead 10 t) _ _ (λ a. after_cases Q r _ go (λ f e q. absurd (none-some f (sym q))) (λ x e. h x a e)) (λ a q. absurd (none-some Shape (sym q)))
+-- What was found is n lines of r, where it is sound.
+abbrev Passes : ℕ → Rest → Found → Type 0
+Passes n r f = (end : Rest) → f.read ≡ Ok end → Passed n r.text end.text
 
--- Lines, and what is found after them.
-onward_sound : (P : Found → Type 0) (f : Found) (go : List ℕ → ℕ → List ℕ → Found) →
-    let last = go f.rest f.line f.store in
-    (f.fault ≡ None → last.fault ≡ None → P last) → (onward f go).fault ≡ None → P (onward f go)
-onward_sound P f go h = on f.fault refl
-  where
-    on : (o : Option Fault) → f.fault ≡ o → (option_map_or (λ fault. f) o (go f.rest f.line f.store)).fault ≡ None → P (option_map_or (λ fault. f) o (go f.rest f.line f.store))
-    on None e q = h e q
-    on (Some fault) e q = absurd (none-some fault (sym q ∙ e))
+-- Sound lines are sound up to a place, and from there on.
+onward_sound : (f : Found) (go : Rest → Store → Found) (end : Rest) → (onward f go).read ≡ Ok end →
+    (next : Rest) × (f.read ≡ Ok next) × ((go next f.store).read ≡ Ok end)
+onward_sound f go end =
+    after_cases (λ (g : Found). g.read ≡ Ok end → (next : Rest) × (f.read ≡ Ok next) × ((go next f.store).read ≡ Ok end)) f.read _ _
+    (λ fault q e. absurd cc) (λ next q e. (next, q, e))
 
--- ---- the lines of a block and of the changes
+onward_passes : {a b : ℕ} (r : Rest) (f : Found) (go : Rest → Store → Found) → Passes a r f → ((next : Rest) (st : Store) → Passes b next (go next st)) →
+    Passes (a + b) r (onward f go)
+onward_passes r f go p q end e = let s = onward_sound f go end e in passed_add (p s.0 s.1) (q s.0 f.store end s.2)
 
--- What was found is n lines of the text t, where it is sound.
-abbrev Passes : ℕ → List ℕ → Found → Type 0
-Passes n t f = f.fault ≡ None → Passed n t f.rest
+-- One line more that is read, in front.
+line_passes : {A : Type 0} {n : ℕ} {t : List ℕ} (read : List ℕ → Result A Fault) (r : Rest) (x : A × Rest) → next_by read r ≡ Ok x →
+    Passed n x.1.text t → Passed (suc n) r.text t
+line_passes read r x e p = let l = line_read read r x e in passed_more l.ends (rw l.rest at p)
 
-block_passes : (kind : Kind) (b n j : ℕ) (t : List ℕ) (ln : ℕ) (st : List ℕ) → Passes n t (block_from kind b n j t ln st)
+-- The lines of a block.
+block_passes : (kind : Kind) (n j : ℕ) (r : Rest) (st : Store) → Passes n r (block_from kind n j r st)
 unfolding block_from
-block_passes kind b zero j t ln st = λ e. passed_none t
-block_passes kind b (suc n) j t ln st =
-    line_sound (λ f. Passed (suc n) t f.rest) t ln st (fields_for kind j (until 10 t)) (λ entry. block_from kind b n (j + 1) (beyond 10 t) (ln + 1) (put (b + j) entry st))
-    (λ entry a s e. passed_more a (block_passes kind b n (j + 1) (beyond 10 t) (ln + 1) (put (b + j) entry st) e))
+block_passes kind zero j r st = λ end e. let q : r ≡ end = cc in rw (← q) (passed_none r.text)
+block_passes kind (suc n) j r st =
+    after_cases (Passes (suc n) r) (next_by (fields_for kind j) r) _ _ (λ fault q end e. absurd cc)
+    (λ line q end e. line_passes (fields_for kind j) r line q (block_passes kind n (j + 1) line.1 (put j line.0 st) end e))
 
-changes_passes : (l n p : ℕ) (t : List ℕ) (ln : ℕ) (st : List ℕ) → Passes (n * l) t (changes_from l n p t ln st)
+-- The S lines.
+changes_passes : (l n p : ℕ) (r : Rest) (st : Store) → Passes (n * l) r (changes_from l n p r st)
 unfolding changes_from
-changes_passes l zero p t ln st = λ e. let z : 0 * l ≡ 0 = omega arith in rw z (passed_none t)
-changes_passes l (suc n) p t ln st =
-    let f = block_from (Change p) (p * levels_max) l 0 t ln st in
+changes_passes l zero p r st = λ end e.
+    let z : 0 * l ≡ 0 = omega arith in
+    let q : r ≡ end = cc in
+    rw (z, ← q) (passed_none r.text)
+changes_passes l (suc n) p r st =
     let z : suc n * l ≡ l + n * l = omega arith in
-    rw z (onward_sound (λ g. Passed (l + n * l) t g.rest) f (changes_from l n (p + 1))
-    (λ s e. passed_add (block_passes (Change p) (p * levels_max) l 0 t ln st s) (changes_passes l n (p + 1) f.rest f.line f.store e)))
+    rw z (onward_passes r (block_from (Change p) l 0 r st) (changes_from l n (p + 1)) (block_passes (Change p) l 0 r st) (changes_passes l n (p + 1)))
 
 -- ---- the names of jobs
 
@@ -145,41 +142,43 @@ named_more {l} {n} {t} {u} {v} f p w = record { passed = rw (z n) y.passed; name
     go zero h = let x : 0 + 0 * (l + 1) ≡ 0 = omega arith in rw x f
     go (suc i) h = rw (z i) (y.named i (omega arith))
 
-jobs_named : (l n i : ℕ) (t : List ℕ) (ln : ℕ) (st : List ℕ) → (jobs_from l n i t ln st).fault ≡ None → Named l n 0 t (jobs_from l n i t ln st).rest
+jobs_named : (l n i : ℕ) (r : Rest) (st : Store) (end : Rest) → (jobs_from l n i r st).read ≡ Ok end → Named l n 0 r.text end.text
 unfolding jobs_from
-jobs_named l zero i t ln st = λ e.
+jobs_named l zero i r st end = λ e.
     let z : 0 + 0 * (l + 1) ≡ 0 = omega arith in
-    record { passed = rw z (passed_none t); named = λ k h. absurd (omega arith) }
-jobs_named l (suc n) i t ln st =
-    let P : Found → Type 0 = λ g. Named l (suc n) 0 t g.rest in
-    let f = block_from Work (i * levels_max) l 0 (beyond 10 t) (ln + 1) st in
+    let q : r ≡ end = cc in
+    record { passed = rw (z, ← q) (passed_none r.text); named = λ k h. absurd (omega arith) }
+jobs_named l (suc n) i r st end =
     let z : l + 1 ≡ suc l = omega arith in
-    line_sound P t ln st (name_fault (until 10 t)) (λ name. onward f (jobs_from l n (i + 1)))
-    (λ name a s. onward_sound P f (jobs_from l n (i + 1))
-    (λ s' e. named_more (name_formed (until 10 t) s) (rw z (passed_more a (block_passes Work (i * levels_max) l 0 (beyond 10 t) (ln + 1) st s')))
-    (jobs_named l n (i + 1) f.rest f.line f.store e)))
+    after_cases (λ (f : Found). f.read ≡ Ok end → Named l (suc n) 0 r.text end.text) (next_by name_fault r) _ _ (λ fault q e. absurd cc)
+    (λ name q e.
+    let f = block_from (Work i) l 0 name.1 st in
+    let s = onward_sound f (jobs_from l n (i + 1)) end e in
+    named_more (name_formed (until 10 r.text) (line_read name_fault r name q).says)
+    (rw z (line_passes name_fault r name q (block_passes (Work i) l 0 name.1 st s.0 s.1)))
+    (jobs_named l n (i + 1) s.0 f.store end s.2))
 
-body_named : (m l resistance : ℕ) (t : List ℕ) (ln : ℕ) (st : List ℕ) → (body_from m l resistance t ln st).fault ≡ None →
-    Named l m (l + l * l) t (body_from m l resistance t ln st).rest
+body_named : (m l resistance : ℕ) (r : Rest) (st : Store) (end : Rest) → (body_from m l resistance r st).read ≡ Ok end →
+    Named l m (l + l * l) r.text end.text
 unfolding body_from
-body_named m l resistance t ln st =
-    let f = block_from (Level resistance) 0 l 0 t ln st in
+body_named m l resistance r st end e =
+    let f = block_from (Level resistance) l 0 r st in
     let g = onward f (changes_from l l 0) in
-    let p = onward_sound (λ (h : Found). Passed (l + l * l) t h.rest) f (changes_from l l 0) (λ s e. passed_add (block_passes (Level resistance) 0 l 0 t ln st s) (changes_passes l l 0 f.rest f.line f.store e)) in
+    let s = onward_sound g (jobs_from l m 0) end e in
+    let p = onward_passes r f (changes_from l l 0) (block_passes (Level resistance) l 0 r st) (changes_passes l l 0) s.0 s.1 in
     let z : l + l * l + 0 ≡ l + l * l = omega arith in
-    onward_sound (λ h. Named l m (l + l * l) t h.rest) g (jobs_from l m 0)
-    (λ s e. rw z at (named_add (p s) (jobs_named l m 0 g.rest g.line g.store e)))
+    rw z at (named_add p (jobs_named l m 0 s.0 g.store end s.2))
 
 -- ---- a whole sheet
 
 sheet_named : (t : List ℕ) (w : Whole t (reading_of t)) →
-    let h = (reading_of t).head in Named h.levels h.jobs (2 + h.levels + h.levels * h.levels) t (body_of w.head (beyond 10 (beyond 10 t))).rest
+    let h = (reading_of t).head in Named h.levels h.jobs (2 + h.levels + h.levels * h.levels) t w.end.text
 sheet_named t w =
     let m = w.head.jobs in
     let l = w.head.levels in
     let z : 2 + l + l * l ≡ 2 + (l + l * l) = omega arith in
     rw (w.same, z)
-    (named_add (passed_more w.first (passed_more w.second (passed_none _))) (body_named m l w.head.resistance (beyond 10 (beyond 10 t)) body_line (replicate store_size 0) w.sound))
+    (named_add (passed_more w.first (passed_more w.second (passed_none _))) (body_named m l w.head.resistance (behind_head t) clear w.end w.sound))
 
 -- Every line of a sheet that is read is ended.
 pub lines_ahead : (t : List ℕ) (n : ℕ) → (reading_of t).refusal ≡ None →

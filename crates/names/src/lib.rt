@@ -5,7 +5,7 @@ ghost use Rattle.store.specs.Store.{jobs_max, levels_max};
 ghost use Rattle.body.specs.Body.{job_lines, lines_before};
 ghost use Rattle.names.specs.Name.{name_at, name_of};
 
-use store::STORE_SIZE;
+use store::Store;
 
 // The name on the J line that follows the first n lines.
 pub fn name_at(s: &[u8], n: usize) -> &[u8]
@@ -34,7 +34,7 @@ pub fn lines_before(l: usize, i: usize) -> usize
 pub fn job_name(s: &[u8], i: usize) -> &[u8]
     ensures { result.now ≡ name_of s.now i }
 {
-    let mut store = [0u32; STORE_SIZE];
+    let mut store = Store::clear();
     let Ok(head) = sheet::read(s, &mut store) else {
         return &s[..0];
     };

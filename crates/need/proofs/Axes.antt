@@ -9,8 +9,9 @@ use Rattle.thermal.specs.Rounding.{ceil_div}
 use Rattle.thermal.proofs.Rounding.{ceil_least}
 use Rattle.frame.specs.Sheet.{Ranges, limit_max, temperature_max}
 use Rattle.frame.specs.Table.{energy_cells, temperature_cells, need, words_max}
+use Rattle.store.specs.declared.Store.{Store}
 use Rattle.store.specs.declared.Head.{Head}
-use Rattle.store.specs.Store.{jobs_max, levels_max, works_max}
+use Rattle.store.specs.Store.{jobs_max, levels_max}
 use Rattle.store.specs.Figures.{sheet_of}
 use Rattle.table.specs.Table.{Axes}
 use Rattle.need.specs.Axes.{bare, axes_of}
@@ -24,11 +25,11 @@ pub need_is : (h : Head) → let f = axes_of h in h.jobs * h.levels * f.energy_c
 unfolding sheet_of need energy_cells temperature_cells
 need_is h = refl
 
-pub need_any : (h : Head) (store : List ℕ) → need (bare h) ≡ need (sheet_of h store)
+pub need_any : (h : Head) (store : Store) → need (bare h) ≡ need (sheet_of h store)
 unfolding sheet_of need energy_cells temperature_cells
 need_any h store = refl
 
-module _ (h : Head) (store : List ℕ) (ok : Ranges (sheet_of h store)) where
+module _ (h : Head) (store : Store) (ok : Ranges (sheet_of h store)) where
   pub axes : need (sheet_of h store) ≤ words_max → Axes (sheet_of h store) (axes_of h)
   unfolding sheet_of energy_cells temperature_cells
   axes n =
@@ -58,7 +59,7 @@ module _ (h : Head) (store : List ℕ) (ok : Ranges (sheet_of h store)) where
 
   -- The need stays below 2 ^ 63 on every sheet that is read.
   pub need_small : let f = axes_of h in
-      (h.jobs * h.levels ≤ works_max) × (h.jobs * h.levels * f.energy_cells ≤ works_max * (limit_max + 1)) ×
+      (h.jobs * h.levels ≤ jobs_max * levels_max) × (h.jobs * h.levels * f.energy_cells ≤ jobs_max * levels_max * (limit_max + 1)) ×
       (h.jobs * h.levels * f.energy_cells * f.temperature_cells < 2 ^ 63)
   need_small =
       let f = axes_of h in

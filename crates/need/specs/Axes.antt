@@ -1,21 +1,21 @@
 -- What the planner makes of the head of a sheet before it plans. The table's axes and the need depend on the head alone, so that any
 -- store gives them.
 -- Assumes nothing.
-use Rattle.std.specs.Prelude.{List, [], ℕ}
 use Rattle.frame.specs.Sheet.{Sheet, Ranges}
 use Rattle.frame.specs.Table.{energy_cells, temperature_cells}
 use Rattle.store.specs.declared.Head.{Head}
-use Rattle.store.specs.Figures.{sheet_of}
+use Rattle.store.specs.declared.Store.{Store}
+use Rattle.store.specs.Figures.{clear, sheet_of}
 use Rattle.table.specs.declared.Frame.{Frame}
 
 -- The head is that of a sheet in its ranges.
 pub record Lawful (h : Head) : Type 0 where
-  pub store : List ℕ
+  pub store : Store
   pub ranges : Ranges (sheet_of h store)
 
 -- A sheet of this head.
 abbrev pub bare : Head → Sheet
-bare h = sheet_of h []
+bare h = sheet_of h clear
 
 -- The head, and the cells of the table's axes.
 abbrev pub axes_of : Head → Frame

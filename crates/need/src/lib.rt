@@ -7,7 +7,7 @@ ghost use Rattle.need.specs.Axes.{Lawful, bare, axes_of};
 ghost use Rattle.need.specs.Need.{words_of};
 
 use refusal::Refusal;
-use store::{Head, STORE_SIZE};
+use store::{Head, Store};
 use table::Frame;
 
 // The head, and the cells of the table's two axes.
@@ -38,7 +38,7 @@ pub fn count_words(s: &[u8]) -> Result<usize, Refusal>
     ensures value { result ≡ words_of s.now }
     ensures words_bound { IfOk result (λ n. n < 2 ^ 63) }
 {
-    let mut store = [0u32; STORE_SIZE];
+    let mut store = Store::clear();
     let head = sheet::read(s, &mut store)?;
     Ok(need_of(frame_of(head)))
 }

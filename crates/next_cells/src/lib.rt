@@ -3,9 +3,8 @@
 ghost use Rattle.std.specs.Prelude.{◌≡◌, cond, ◌+◌, ◌≤◌, ◌<◌, leb, length};
 ghost use Rattle.thermal.specs.Rounding.{ceil_div};
 ghost use Rattle.frame.specs.Sheet.{Sheet};
-ghost use Rattle.frame.specs.Table.{temperature_cells, words_max};
+ghost use Rattle.frame.specs.Table.{tabulate, temperature_cells};
 ghost use Rattle.table.specs.Problem.{sheet_for};
-ghost use Rattle.spans.specs.Spans.{Spans};
 ghost use Rattle.next_cells.specs.Next.{Warms, next_cell};
 
 use run::Run;
@@ -28,16 +27,17 @@ fn cell_of(f: Frame, t: u64, multiplier: u64) -> u32
 }
 
 // Writes, for each temperature cell, the temperature cell after job i at level j.
-pub fn map_cells(problem: &Problem, table: &mut [u32], i: u32, j: u32, at: usize)
-    requires { let s = sheet_for problem.now in record { job : i < s.jobs; level : j < s.levels; room : at + temperature_cells s ≤ length table.old; allowed : at ≤ words_max } }
-    ensures { let s = sheet_for problem.now in Spans table.old table.new at (temperature_cells s) (next_cell s i j) }
+// Job and level are plain numbers, bounded in the contract: each call has others, and a type for them would have to hold their sheet.
+pub fn map_cells(problem: &Problem, row: &mut [u32], i: u32, j: u32)
+    requires { let s = sheet_for problem.now in record { job : i < s.jobs; level : j < s.levels; whole : length row.old ≡ temperature_cells s } }
+    ensures { let s = sheet_for problem.now in row.new ≡ tabulate (next_cell s i j) 0 (temperature_cells s) }
 {
     let f = problem.frame;
     let step = f.head.temperature_step as u64;
     let multiplier = (u32::MAX / f.head.temperature_step) as u64 + 1;
-    for b in 0..f.temperature_cells {
+    for (b, cell) in row.iter_mut().enumerate() {
         let run = Run::fresh(i, j, 0, b as u64 * step);
         let after = problem.figures.next_job(run, j);
-        table[at + b] = cell_of(f, after.temperature, multiplier);
+        *cell = cell_of(f, after.temperature, multiplier);
     }
 }

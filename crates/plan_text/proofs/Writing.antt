@@ -12,6 +12,7 @@ use Rattle.std.specs.Prelude.{Ok}
 use Rattle.frame.specs.Sheet.{Sheet, Ranges}
 use Rattle.frame.specs.Run.{State, start, step, exact_run}
 use Rattle.frame.specs.Demands.{figures}
+use Rattle.store.specs.declared.Store.{Store}
 use Rattle.store.specs.declared.Head.{Head}
 use Rattle.store.specs.Store.{jobs_max, levels_max}
 use Rattle.store.specs.Figures.{sheet_of}
@@ -43,7 +44,7 @@ unfolding job_text_from
 one_line name s i a b j js e = rw (add-one, e) refl
 
 -- The Q lines of i jobs are written.
-pub record Writing (t : List ℕ) (h : Head) (store levels : List ℕ) (old new : Writer) (run : Run) (left : List ℕ) (i : ℕ) : Type 0 where
+pub record Writing (t : List ℕ) (h : Head) (store : Store) (levels : List ℕ) (old new : Writer) (run : Run) (left : List ℕ) (i : ℕ) : Type 0 where
   pub most : i ≤ h.jobs
   pub long : length new.part.now ≡ length old.part.now
   pub small : Small i (state_of run)
@@ -53,7 +54,7 @@ pub record Writing (t : List ℕ) (h : Head) (store levels : List ℕ) (old new 
   pub rest : (z : Writer) → Writes new z (job_text_from (name_of t) (sheet_of h store) i (state_of run) (drop i (take h.jobs levels))) →
       Writes old z (job_text_from (name_of t) (sheet_of h store) 0 (start (sheet_of h store)) (take h.jobs levels))
 
-module _ {t : List ℕ} {h : Head} {store levels : List ℕ} (w : Handed t h store levels) where
+module _ {t : List ℕ} {h : Head} {store : Store} {levels : List ℕ} (w : Handed t h store levels) where
   -- The sheet that was read keeps its ranges.
   pub ranges : Ranges (sheet_of h store)
   ranges = reading_ranges t (Ok h) store w.read h refl
@@ -91,7 +92,7 @@ module _ {t : List ℕ} {h : Head} {store levels : List ℕ} (w : Handed t h sto
   module _ {old new : Writer} {run : Run} {left : List ℕ} {i : ℕ} (g : Writing t h store levels old new run left i) where
     module _ (l : i < h.jobs) where
       -- The next step's own needs.
-      pub writing_rests : {words steady : List ℕ} → Stored (sheet_of h store) words steady → Rests run words steady (get_or levels i 0)
+      pub writing_rests : {words : Store} {steady : List ℕ} → Stored (sheet_of h store) words steady → Rests run words steady (get_or levels i 0)
       unfolding sheet_of
       writing_rests v =
           let m = ranges.jobs.high in

@@ -1,6 +1,7 @@
 -- What writing a plan's text rests on.
 -- Assumes nothing.
 use Rattle.std.specs.Prelude.{◌≡◌, List, ℕ, ◌≤◌, ◌<◌, length, get_or, None}
+use Rattle.store.specs.declared.Store.{Store}
 use Rattle.store.specs.declared.Head.{Head}
 use Rattle.store.specs.Store.{levels_max}
 use Rattle.run.specs.declared.Run.{Run}
@@ -13,7 +14,7 @@ use Rattle.writer.specs.Written.{Room}
 use Rattle.plan_lines.specs.Lines.{job_line_max}
 
 -- The head and the store are those of the text t, read without refusal, and there is a level for each of its jobs.
-pub record Handed (t : List ℕ) (h : Head) (store levels : List ℕ) : Type 0 where
+pub record Handed (t : List ℕ) (h : Head) (store : Store) (levels : List ℕ) : Type 0 where
   pub read : record { refusal = None; head = h; store = store } ≡ reading_of t
   pub each : h.jobs ≤ length levels
   pub below : (i : ℕ) → i < h.jobs → get_or levels i 0 < levels_max

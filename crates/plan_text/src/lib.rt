@@ -12,7 +12,7 @@ ghost use Rattle.plan_text.specs.Handed.{Ended, Handed};
 
 use run::Run;
 use step::Figures;
-use store::{Head, STORE_SIZE};
+use store::{Head, Store};
 use writer::Writer;
 
 // "part under m bytes (text: under 4,096)" is refused: no plan's text is longer.
@@ -30,7 +30,7 @@ fn put_job(t: &[u8], writer: &mut Writer, run: Run)
 }
 
 // Writes the Q lines of a list of levels.
-fn put_jobs(s: &[u8], head: Head, store: &[u32; STORE_SIZE], levels: &[u8], writer: &mut Writer)
+fn put_jobs(s: &[u8], head: Head, store: &Store, levels: &[u8], writer: &mut Writer)
     requires { record { handed : Handed s.now head store.now levels.now; room : Room writer.old (head.jobs * job_line_max) } }
     ensures wrote { Writes writer.old writer.new (job_text_from (name_of s.now) (sheet_of head store.now) 0 (start (sheet_of head store.now)) (take head.jobs levels.now)) }
     ensures upper_bound { writer.new.at ≤ writer.old.at + head.jobs * job_line_max }
@@ -47,13 +47,7 @@ fn put_jobs(s: &[u8], head: Head, store: &[u32; STORE_SIZE], levels: &[u8], writ
 }
 
 // Writes the text of a list of levels on a sheet that was read: the P line of its figures, and a Q line for each job.
-pub fn put_plan(
-    s: &[u8],
-    head: Head,
-    store: &[u32; STORE_SIZE],
-    levels: &[u8],
-    text: &mut [u8],
-) -> usize
+pub fn put_plan(s: &[u8], head: Head, store: &Store, levels: &[u8], text: &mut [u8]) -> usize
     requires { record { handed : Handed s.now head store.now levels.now; room : text_least ≤ length text.old } }
     ensures wrote { Wrote text.old 0 (plan_text s.now (sheet_of head store.now) (take head.jobs levels.now)) text.new result }
     ensures upper_bound { result ≤ text_least }

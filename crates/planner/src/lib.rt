@@ -13,12 +13,12 @@ ghost use Rattle.demands.specs.Demands.{Demands};
 use refusal::Refusal;
 use reply::Totals;
 use run::Run;
-use store::{Head, STORE_SIZE};
+use store::{Head, Store};
 
 // Plans the jobs left from `start` on, of a sheet that was read: levels to `part`, least times to `table`.
 pub fn plan_left(
     read: Result<Head, Refusal>,
-    store: &[u32; STORE_SIZE],
+    store: &Store,
     start: Run,
     table: &mut [u32],
     part: &mut [u8],
@@ -38,7 +38,7 @@ pub fn plan_left(
 // Plans a sheet that was read, from its start.
 pub fn plan_read(
     read: Result<Head, Refusal>,
-    store: &[u32; STORE_SIZE],
+    store: &Store,
     table: &mut [u32],
     part: &mut [u8],
 ) -> Result<Totals, Refusal>
@@ -54,7 +54,7 @@ pub fn plan(s: &[u8], table: &mut [u32], part: &mut [u8]) -> Result<Totals, Refu
     ensures answers { Answers (answer_of s.now (length table.old) (length part.old)) table.old table.new part.old part.new (reply_by result) }
     ensures demands { Demands s.now (length table.old) (length part.old) part.new (reply_by result) }
 {
-    let mut store = [0u32; STORE_SIZE];
+    let mut store = Store::clear();
     let read = sheet::read(s, &mut store);
     plan_read(read, &store, table, part)
 }

@@ -4,14 +4,18 @@
 use Rattle.std.specs.Prelude.{ℕ, Option, Some, None}
 use Rattle.fields.specs.declared.Fault.{Fault}
 use Rattle.fields.specs.declared.Fault.TheVariants.{Shape, Form, Range}
+use Rattle.reading.specs.declared.LineFault.{LineFault}
 use Rattle.refusal.specs.declared.Refusal.{Refusal}
 use Rattle.refusal.specs.declared.Refusal.TheVariants.{TooLong, Line, Form as FormAt, Range as RangeAt, Hot, Trailing, TableTooLarge, TableShort, PartShort, NoPlan, ListLength, LevelTooHigh, AllDone, ReadingRange, ReadingHot}
 
 -- A fault of a line as a refusal: 2 for its letter, its count of fields or a missing line, 3 for a field's form, 4 for a field's range.
-abbrev pub refusal_of : Fault → ℕ → Refusal
-refusal_of Shape line = Line line
-refusal_of (Form field) line = FormAt line field
-refusal_of (Range field) line = RangeAt line field
+abbrev pub refusal_as : ℕ → Fault → Refusal
+refusal_as line Shape = Line line
+refusal_as line (Form field) = FormAt line field
+refusal_as line (Range field) = RangeAt line field
+
+abbrev pub refusal_of : LineFault → Refusal
+refusal_of f = refusal_as f.line f.fault
 
 -- The number that document 01 gives a refusal.
 abbrev pub number_of : Refusal → ℕ

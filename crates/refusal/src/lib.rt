@@ -4,6 +4,7 @@ ghost use Rattle.std.specs.Prelude.{◌≡◌};
 ghost use Rattle.refusal.specs.Code.{refusal_of, number_of, line_of, field_of};
 
 use fields::Fault;
+use reading::LineFault;
 
 // Why a sheet, a list of levels or a reading is refused, with line and field where there are any (document 01, 'What is refused';
 // document 02, W1).
@@ -78,13 +79,14 @@ impl Refusal {
     }
 }
 
-// The fault of a line as a refusal. No `From`, as a fault alone does not know its line.
-pub fn of_line(fault: Fault, line: usize) -> Refusal
-    ensures { result ≡ refusal_of fault line }
-{
-    match fault {
-        Fault::Shape => Refusal::Line(line),
-        Fault::Form(field) => Refusal::Form(line, field),
-        Fault::Range(field) => Refusal::Range(line, field),
+impl From<LineFault> for Refusal {
+    ghost from_gives = { λ f refusal. refusal ≡ refusal_of f };
+
+    fn from(f: LineFault) -> Refusal {
+        match f.fault {
+            Fault::Shape => Refusal::Line(f.line),
+            Fault::Form(field) => Refusal::Form(f.line, field),
+            Fault::Range(field) => Refusal::Range(f.line, field),
+        }
     }
 }

@@ -2,21 +2,23 @@
 -- Assumes nothing.
 use mathlib.Core.Path.{◌≡◌, refl, sym, ap, ap₂, ◌∙◌}
 use mathlib.Core.Logic.{◌⊎◌, inl, inr}
-use mathlib.Core.List.{List}
+use mathlib.Core.List.{List, []}
 use Prim.Native.Nat.{ℕ, zero, suc, ◌+◌, ◌*◌, ◌-◌, ◌≤◌, ◌<◌, min}
 use native.Mathlib.Nat.{add-mul, one-mul}
 use native.Mathlib.Omega.{arith}
 use Rattle.std.proofs.lemmas.Nat.{row_fits}
 use native.Mathlib.Decide.{dec_lt}
-use lib.ListN.{get_or}
+use lib.ListN.{get_or, take}
+use Rattle.std.proofs.lemmas.List.{get_or-take}
+use Rattle.frame.specs.Table.{tabulate}
+use Rattle.frame.proofs.Tabulate.{get_d_tabulate}
 use Rattle.word.specs.Word.{settled}
 use Rattle.spans.specs.Spans.{Spans}
 use Rattle.open_ways.specs.declared.layer.Layer.{Layer}
 use Rattle.open_ways.specs.Moves.{move_at, relaxed_at}
 use Rattle.open_ways.specs.Layer.{relaxed, relaxed_by}
 use Rattle.open_ways.proofs.Moves.{move_within, relaxed_on, relaxed_off}
-use Rattle.one_level.specs.Level.{part_size}
-use Rattle.relax.specs.Levels.{Parted, Levels}
+use Rattle.relax.specs.Levels.{Levels}
 
 -- ---- a run of words
 
@@ -45,7 +47,7 @@ module _ {old mid new : List ℕ} {at p cells x n : ℕ} {f : ℕ → ℕ → �
   less q h = outside_part at ((p + 1) * cells) at (p * cells) q (omega arith) (omega (arith, add-mul p 1 cells)) h
 
   -- The run of level p after those of the levels before.
-  pub levels_more : ((y : ℕ) → g (y - x) ≡ f p y) → Levels old new at (p + 1) cells x (x + n) f
+  pub levels_more : ((y : ℕ) → x ≤ y → y < x + n → g (y - x) ≡ f p y) → Levels old new at (p + 1) cells x (x + n) f
   levels_more is =
       record {
         long = w.long ∙ v.long;
@@ -55,7 +57,7 @@ module _ {old mid new : List ℕ} {at p cells x n : ℕ} {f : ℕ → ℕ → �
               | no z ↦
                   let e : k ≡ p = omega arith in
                   let s : at + p * cells + y ≡ at + p * cells + x + (y - x) = omega arith in
-                  rw e (ap (λ (q : ℕ). get_or new q 0) s ∙ w.inside (y - x) (omega arith) ∙ is y)
+                  rw e (ap (λ (q : ℕ). get_or new q 0) s ∙ w.inside (y - x) (omega arith) ∙ is y (omega arith) (omega arith))
             ];
         level = λ k y h l g.
             elim (dec_lt k p) [
@@ -94,23 +96,25 @@ module _ (layer : Layer) {x : ℕ} {old mid : List ℕ} {f : ℕ → ℕ → ℕ
       ]
 
   -- The words from x to x + n after those before x.
-  pub levels_on : (was part new : List ℕ) (n : ℕ) → x + n ≤ layer.cells
+  pub levels_on : (part : List (List ℕ)) (new : List ℕ) (n : ℕ) → x + n ≤ layer.cells
       → ((p y : ℕ) → f p y ≡ settled (relaxed layer old p y))
-      → Parted was part layer.levels n (λ (p q : ℕ). settled (relaxed layer mid p (x + q)))
-      → Levels mid new layer.at layer.levels layer.cells x (x + n) (λ (p y : ℕ). get_or part (p * part_size + (y - x)) 0)
+      → ((p : ℕ) → p < layer.levels → take n (get_or part p []) ≡ tabulate (λ (q : ℕ). settled (relaxed layer mid p (x + q))) 0 n)
+      → Levels mid new layer.at layer.levels layer.cells x (x + n) (λ (p y : ℕ). get_or (get_or part p []) (y - x) 0)
       → Levels old new layer.at layer.levels layer.cells 0 (x + n) f
-  levels_on was part new n room is d w =
+  levels_on part new n room is d w =
       record {
         long = w.long ∙ v.long;
         inside = λ p y h l g.
             elim (dec_lt y x) [
               | yes z ↦ w.level p y h (omega arith) (inl z) ∙ v.inside p y h l z
               | no z ↦
-                  let e : x + (y - x) ≡ y = omega arith in
-                  let r = relaxed_kept p h layer.levels (x + (y - x)) (omega arith) (omega arith) in
+                  let e : x + (0 + (y - x)) ≡ y = omega arith in
                   w.inside p y h (omega arith) g
-                  ∙ d.inside p (y - x) h (omega arith)
-                  ∙ ap settled (r ∙ ap (relaxed layer old p) e)
+                  ∙ sym (get_or-take n (get_or part p []) (y - x) 0 (omega arith))
+                  ∙ ap (λ (ws : List ℕ). get_or ws (y - x) 0) (d p h)
+                  ∙ get_d_tabulate (λ (q : ℕ). settled (relaxed layer mid p (x + q))) 0 n (y - x) (omega arith)
+                  ∙ ap (λ (z : ℕ). settled (relaxed layer mid p z)) e
+                  ∙ ap settled (relaxed_kept p h layer.levels y (omega arith) (omega arith))
                   ∙ sym (is p y)
             ];
         level = λ p y h l g. w.level p y h l (later g) ∙ v.level p y h l (sooner g);

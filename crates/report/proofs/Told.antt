@@ -13,6 +13,7 @@ use Rattle.frame.specs.Demands.{Outcome, planned, no_plan}
 use Rattle.frame.specs.Demands as frame
 use Rattle.frame.specs.Plan.{frame_outcome}
 use Rattle.frame.proofs.Demand3.{frame_demand2}
+use Rattle.store.specs.declared.Store.{Store}
 use Rattle.store.specs.Store.{jobs_max, levels_max}
 use Rattle.store.specs.Figures.{sheet_of}
 use Rattle.refusal.specs.declared.Refusal.{Refusal}
@@ -56,7 +57,7 @@ unfolding answer_in answer_of answer_to answer_by
 answer_away t f h = accepted_refused refused _ h
 
 -- The head and the store that were read are those of the text.
-module _ (t : List ℕ) (h : Head) (st : List ℕ) (e : read_in (Ok h) st ≡ reading_of t) where
+module _ (t : List ℕ) (h : Head) (st : Store) (e : read_in (Ok h) st ≡ reading_of t) where
   pub read_wrote : (old levels new : List ℕ) (n : ℕ) → Wrote old 0 (plan_text t (sheet_of h st) (take h.jobs levels)) new n →
       Wrote old 0 (plan_text t (sheet_in t) (take (sheet_in t).jobs levels)) new n
   unfolding sheet_of

@@ -6,7 +6,7 @@ ghost use Rattle.report.specs.Report.{answer_in, report_by, report_of, text_afte
 
 use plan_text::TEXT_LEAST;
 use refusal::Refusal;
-use store::{JOBS_MAX, STORE_SIZE};
+use store::{JOBS_MAX, Store};
 
 // Plans a sheet with a table of its own, and writes the plan's text: its length. The part is tested after 8 and before 10.
 pub fn write_plan(s: &[u8], text: &mut [u8]) -> Result<usize, Refusal>
@@ -16,7 +16,7 @@ pub fn write_plan(s: &[u8], text: &mut [u8]) -> Result<usize, Refusal>
 {
     let mut table = [0u32; 16384];
     let mut levels = [0u8; JOBS_MAX];
-    let mut store = [0u32; STORE_SIZE];
+    let mut store = Store::clear();
     let head = sheet::read(s, &mut store)?;
     let plan = planner::plan_read(Ok(head), &store, &mut table, &mut levels);
     if text.len() < TEXT_LEAST {

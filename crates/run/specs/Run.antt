@@ -6,7 +6,7 @@ use Rattle.thermal.specs.Thermal.{RuleDomain}
 use Rattle.frame.specs.Sheet.{Sheet, steady_of}
 use Rattle.frame.specs.Run.{State}
 use Rattle.run.specs.declared.Run.{Run}
-use Rattle.run.specs.declared.Change.{Change}
+use Rattle.store.specs.declared.Change.{Change}
 use Rattle.run.specs.declared.Job.{Job}
 
 -- The state that a run's struct holds: "The run is kept as one state that each job carries forward."

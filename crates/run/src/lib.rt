@@ -5,6 +5,8 @@ ghost use Rattle.frame.specs.Sheet.{Sheet};
 ghost use Rattle.frame.specs.Run.{fresh, step};
 ghost use Rattle.run.specs.Run.{state_of, FiguresOf, Bounds};
 
+use store::Change;
+
 // A run so far, "one state that each job carries forward": jobs done, present level, time, energy, temperature, and the highest
 // temperature at a job end.
 #[derive(Clone, Copy)]
@@ -15,13 +17,6 @@ pub struct Run {
     pub energy: u64,
     pub temperature: u64,
     pub peak: u64,
-}
-
-// What a change of level adds: "those of the change from the level before".
-#[derive(Clone, Copy)]
-pub struct Change {
-    pub time: u32,
-    pub energy: u32,
 }
 
 // A job's figures at a level: "the job's time and energy there", the level's steady-state temperature and the decay.

@@ -14,7 +14,7 @@ use refusal::Refusal;
 use reply::Totals;
 use run::Run;
 use step::Figures;
-use store::STORE_SIZE;
+use store::Store;
 use table::{Frame, Problem};
 
 // Fills the table and, where there is a plan for the jobs left from `start` on, writes its levels: whether there is one.
@@ -38,7 +38,7 @@ fn find_plan(problem: &Problem, start: Run, table: &mut [u32], part: &mut [u8]) 
 // Plans the jobs left from `start` on, where what is lent is enough: levels to `part`, least times to `table`.
 pub fn solve(
     f: Frame,
-    store: &[u32; STORE_SIZE],
+    store: &Store,
     start: Run,
     table: &mut [u32],
     part: &mut [u8],

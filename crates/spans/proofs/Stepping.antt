@@ -1,20 +1,17 @@
--- A loop that sets a run of words one by one: none, one more, all; a run behind another; a run in a part of the words.
+-- A run of words that are set one by one: one more; a run behind another; a run in a part of the words.
 -- Assumes nothing.
-use mathlib.Core.Path.{◌≡◌, refl, ap, ◌∙◌}
+use mathlib.Core.Path.{◌≡◌, ap, ◌∙◌}
 use mathlib.Core.Logic.{◌⊎◌, inl, inr, ⊎_elim}
 use mathlib.Core.List.{List}
 use Prim.Native.Nat.{ℕ, ◌+◌, ◌-◌, ◌≤◌, ◌<◌}
-use native.Mathlib.Nat.{eq-or-lt_of_le, le_antisymm}
+use native.Mathlib.Nat.{eq-or-lt_of_le}
 use native.Mathlib.Decide.{dec_lt}
 use native.Mathlib.Omega.{arith}
 use lib.ListN.{length, get_or, set, length-set}
 use borrow.Rule.Slice.PartMut.{put_mid}
-use Rattle.std.proofs.lemmas.Grind.{common_steps}
 use lib.Seq.{get_or-set_same, get_or-set_other}
+use Rattle.std.proofs.lemmas.Grind.{common_steps}
 use Rattle.spans.specs.Spans.{Spans}
-
-pub spans_none : (ws : List ℕ) (at : ℕ) (f : ℕ → ℕ) → Spans ws ws at 0 f
-spans_none ws at f = record { long = refl; inside = λ k h. absurd (omega arith); outside = λ q h. refl }
 
 -- A place outside a run is outside the run without its last word, and is not that word's.
 outside_less : (at k q : ℕ) → (q < at) ⊎ (at + (k + 1) ≤ q) → (q < at) ⊎ (at + k ≤ q)
@@ -42,9 +39,6 @@ module _ {old new : List ℕ} {at k : ℕ} {f : ℕ → ℕ} (w : Spans old new 
             ⊎_elim (λ z. rw z (get_or-set_same new (at + k) v 0 (spans_room h room) ∙ e)) (λ z. get_or-set_other new (at + k) (at + q) v 0 (λ i. absurd (omega arith)) ∙ w.inside q z) (eq-or-lt_of_le g);
         outside = λ q l. get_or-set_other new (at + k) q v 0 (outside_last at k q l) ∙ w.outside q (outside_less at k q l);
       }
-
-  pub spans_all : {n : ℕ} → k ≤ n → n ≤ k → Spans old new at n f
-  spans_all h l = rw (le_antisymm h l) at w
 
 -- A run of n words behind one of m words.
 pub spans_on : {old mid new : List ℕ} {at m n : ℕ} {f g : ℕ → ℕ} → Spans old mid at m f → Spans mid new (at + m) n g → ((k : ℕ) → k < n → g k ≡ f (m + k)) → Spans old new at (m + n) f

@@ -11,6 +11,7 @@ use lib.Seq.{drop-cons}
 use Rattle.frame.specs.Sheet.{Sheet, Ranges}
 use Rattle.frame.specs.Run.{State, start, change, job, step, exact_run}
 use Rattle.store.specs.Store.{levels_max}
+use Rattle.store.specs.declared.Store.{Store}
 use Rattle.run.specs.Run.{state_of}
 use Rattle.run.specs.declared.Run.{Run}
 use Rattle.run.proofs.Small.{Grown, small_step}
@@ -39,7 +40,7 @@ going_next {s} {first} {levels} {a} {i} r g next l k e =
     }
 
 -- A run of jobs from a sheet's start has what it rests on.
-pub begun_start : {s : Sheet} {store steady : List ℕ} {n : ℕ} (a : Run) → Ranges s → Stored s store steady → state_of a ≡ start s → n ≤ s.jobs → Begun a store steady n
+pub begun_start : {s : Sheet} {store : Store} {steady : List ℕ} {n : ℕ} (a : Run) → Ranges s → Stored s store steady → state_of a ≡ start s → n ≤ s.jobs → Begun a store steady n
 begun_start {s} a r h e m =
     record {
       sheet = s;

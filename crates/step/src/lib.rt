@@ -1,53 +1,48 @@
 #![tactic(auto)]
 
-ghost use Rattle.std.specs.Prelude.{◌≡◌, List, ℕ, ◌+◌, ◌≤◌, ◌<◌, length, get_or, take};
+ghost use Rattle.std.specs.Prelude.{◌≡◌, ℕ, ◌≤◌, ◌<◌, length, get_or};
 ghost use Rattle.thermal.specs.Thermal.{steady_state};
 ghost use Rattle.frame.specs.Sheet.{Sheet, Ranges, temperature_max};
 ghost use Rattle.frame.specs.Run.{start, step, exact_run};
-ghost use Rattle.store.specs.Store.{jobs_max, levels_max, powers};
-ghost use Rattle.store.specs.Figures.{sheet_of};
+ghost use Rattle.store.specs.Store.{jobs_max, levels_max};
+ghost use Rattle.store.specs.Figures.{power_at, change_at, sheet_of};
 ghost use Rattle.store.specs.declared.Head.{Head};
+ghost use Rattle.store.specs.declared.Store.{Store};
 ghost use Rattle.run.specs.Run.{state_of};
-ghost use Rattle.step.specs.Store.{steadies, change_in, job_in, Stored, Rests, Begun};
+ghost use Rattle.step.specs.Store.{steadies, job_in, Stored, Rests, Begun};
 
-use run::{Change, Job, Run};
-use store::{
-    CHANGE_ENERGIES, CHANGE_TIMES, DECAYS, Head, JOB_ENERGIES, JOB_TIMES, LEVELS_MAX, POWERS,
-    STORE_SIZE,
-};
+use run::{Job, Run};
+use store::{Change, Head, LEVELS_MAX, Store, Work};
 
 // A sheet's figures as a run takes them: those of its L, S and B lines, and the steady-state temperature of each level.
 #[derive(Clone, Copy)]
 pub struct Figures<'a> {
-    pub store: &'a [u32; STORE_SIZE],
+    pub store: &'a Store,
     pub steady: [u32; LEVELS_MAX],
 }
 
 impl<'a> Figures<'a> {
     // Works out the steady-state temperatures once, for all jobs.
-    pub fn of(store: &'a [u32; STORE_SIZE], resistance: u32) -> Figures<'a>
-        requires { (j : ℕ) → j < levels_max → steady_state (get_or store.now (powers + j) 0) resistance ≤ temperature_max }
+    pub fn of(store: &'a Store, resistance: u32) -> Figures<'a>
+        requires { (j : ℕ) → j < levels_max → steady_state (power_at store.now j) resistance ≤ temperature_max }
         ensures store { result.store.now ≡ store.now }
         ensures steady { result.steady ≡ steadies store.now resistance }
         ensures stored { (h : Head) → h.resistance ≡ resistance → Stored (sheet_of h store.now) result.store.now result.steady }
     {
         let mut steady = [0u32; LEVELS_MAX];
         for j in 0..LEVELS_MAX {
-            let t = thermal::steady_state(store[POWERS + j], resistance);
+            let t = thermal::steady_state(store.powers[j], resistance);
             steady[j] = t as u32;
         }
         Figures { store, steady }
     }
 
-    // The cost of the change from level p to level j.
+    // The cost of the change from level p to level j, which are plain numbers, as a run has its level.
     fn change(&self, p: u32, j: u32) -> Change
         requires { (p < levels_max) × (j < levels_max) }
-        ensures { result ≡ change_in self.now.store.now p j }
+        ensures { result ≡ change_at self.now.store.now p j }
     {
-        let k = p as usize * LEVELS_MAX + j as usize;
-        let time = self.store[CHANGE_TIMES + k];
-        let energy = self.store[CHANGE_ENERGIES + k];
-        Change { time, energy }
+        self.store.changes[p as usize][j as usize]
     }
 
     // The figures of job i at level j.
@@ -55,12 +50,12 @@ impl<'a> Figures<'a> {
         requires { (i < jobs_max) × (j < levels_max) }
         ensures { result ≡ job_in self.now.store.now self.now.steady i j }
     {
-        let n = j as usize;
-        let k = i as usize * LEVELS_MAX + n;
-        let time = self.store[JOB_TIMES + k];
-        let energy = self.store[JOB_ENERGIES + k];
-        let decay = self.store[DECAYS + k];
-        let steady = self.steady[n];
+        let Work {
+            time,
+            energy,
+            decay,
+        } = self.store.works[i as usize][j as usize];
+        let steady = self.steady[j as usize];
         Job {
             time,
             energy,
@@ -99,7 +94,7 @@ impl<'a> Figures<'a> {
 
 // The run before a sheet's first job: "time 0, energy 0, the start temperature and the start level".
 pub fn start_of(head: Head) -> Run
-    ensures { (store : List ℕ) → state_of result ≡ start (sheet_of head store) }
+    ensures { (store : Store) → state_of result ≡ start (sheet_of head store) }
 {
     Run::start(head.start_level, head.start_temperature as u64)
 }

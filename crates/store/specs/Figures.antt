@@ -1,24 +1,43 @@
--- Head and store as a `Sheet` of `frame`. A place past the end of a kind's part of the store counts as 0.
+-- Head and store as a `Sheet` of `frame` (document 01, 'The sheet'). What is past the end of the store counts as 0.
 -- Assumes nothing.
-use Rattle.std.specs.Prelude.{cond, List, ℕ, ◌+◌, ◌*◌, ltb, get_or}
+use Rattle.std.specs.Prelude.{List, [], ℕ, get_or, replicate}
 use Rattle.frame.specs.Sheet.{Sheet}
+use Rattle.store.specs.Store.{jobs_max, levels_max}
 use Rattle.store.specs.declared.Head.{Head}
-use Rattle.store.specs.Store.{levels_max, changes_max, works_max, powers, change_times, change_energies, job_times, job_energies, decays}
+use Rattle.store.specs.declared.Change.{Change}
+use Rattle.store.specs.declared.Work.{Work}
+use Rattle.store.specs.declared.Store.{Store}
 
--- Figure k of the n figures that stand in the store from place b on.
-unfoldable pub figure_at : List ℕ → ℕ → ℕ → ℕ → ℕ
-figure_at store b n k = cond (ltb k n) (get_or store (b + k) 0) 0
+-- A change and a job of no figures.
+abbrev pub no_change : Change
+no_change = record { time = 0; energy = 0 }
 
--- The figure of a change, "by level left and then level entered", from place b on.
-abbrev pub change_figure : List ℕ → ℕ → ℕ → ℕ → ℕ
-change_figure store b p j = figure_at store b changes_max (p * levels_max + j)
+abbrev pub no_work : Work
+no_work = record { time = 0; energy = 0; decay = 0 }
 
--- The figure of a job at a level, from place b on.
-abbrev pub work_figure : List ℕ → ℕ → ℕ → ℕ → ℕ
-work_figure store b i j = figure_at store b works_max (i * levels_max + j)
+-- A store of no figures.
+abbrev pub clear : Store
+clear =
+    record {
+      powers = replicate levels_max 0;
+      changes = replicate levels_max (replicate levels_max no_change);
+      works = replicate jobs_max (replicate levels_max no_work);
+    }
+
+-- "L, power P" of level j.
+abbrev pub power_at : Store → ℕ → ℕ
+power_at st j = get_or st.powers j 0
+
+-- "S, time, energy of a change", of level p left and level j entered.
+abbrev pub change_at : Store → ℕ → ℕ → Change
+change_at st p j = get_or (get_or st.changes p []) j no_change
+
+-- "B, time .., energy .., decay ..", of job i at level j.
+abbrev pub work_at : Store → ℕ → ℕ → Work
+work_at st i j = get_or (get_or st.works i []) j no_work
 
 -- The sheet of these figures.
-unfoldable pub sheet_of : Head → List ℕ → Sheet
+unfoldable pub sheet_of : Head → Store → Sheet
 sheet_of h store =
     record {
       jobs = h.jobs;
@@ -31,10 +50,10 @@ sheet_of h store =
       resistance = h.resistance;
       energy_step = h.energy_step;
       temperature_step = h.temperature_step;
-      power = λ j. figure_at store powers levels_max j;
-      change_time = λ p j. change_figure store change_times p j;
-      change_energy = λ p j. change_figure store change_energies p j;
-      job_time = λ i j. work_figure store job_times i j;
-      job_energy = λ i j. work_figure store job_energies i j;
-      decay = λ i j. work_figure store decays i j;
+      power = λ j. power_at store j;
+      change_time = λ p j. (change_at store p j).time;
+      change_energy = λ p j. (change_at store p j).energy;
+      job_time = λ i j. (work_at store i j).time;
+      job_energy = λ i j. (work_at store i j).energy;
+      decay = λ i j. (work_at store i j).decay;
     }

@@ -1,7 +1,8 @@
 #![tactic(auto)]
 
-// What is kept of a sheet that was read: the figures of its V and H lines side by side, and those of its L, S and B lines in one store.
-// A figure of a change stands in the store by the level left and then the level entered, one of a job by the job and then the level.
+// What is kept of a sheet that was read: the figures of its V and H lines, and those of its L, S and B lines.
+ghost use Rattle.std.specs.Prelude.{◌≡◌};
+ghost use Rattle.store.specs.Figures.{clear};
 
 // The figures of the V line and of the H line, in their order.
 #[derive(Clone, Copy)]
@@ -42,23 +43,50 @@ pub const COST_MAX: u32 = 10_000_000;
 // "decay (0 to 65,536)"
 pub const DECAY_MAX: u32 = 65_536;
 
-// Changes from a level to a level, and jobs at a level.
+// Changes from a level to a level.
 pub const CHANGES_MAX: usize = LEVELS_MAX * LEVELS_MAX;
 
-pub const WORKS_MAX: usize = JOBS_MAX * LEVELS_MAX;
+// What a change of level costs: "S, time, energy of a change".
+#[derive(Clone, Copy)]
+pub struct Change {
+    pub time: u32,
+    pub energy: u32,
+}
 
-// Where the figures of each kind begin.
-pub const POWERS: usize = 0;
+// What a job takes at a level: "B, time .., energy .., decay ..".
+#[derive(Clone, Copy)]
+pub struct Work {
+    pub time: u32,
+    pub energy: u32,
+    pub decay: u32,
+}
 
-pub const CHANGE_TIMES: usize = POWERS + LEVELS_MAX;
+// The figures of the L, S and B lines: those of a change by the level left and then the level entered, those of a job by the job and
+// then the level.
+#[derive(Drop)]
+pub struct Store {
+    pub powers: [u32; LEVELS_MAX],
+    pub changes: [[Change; LEVELS_MAX]; LEVELS_MAX],
+    pub works: [[Work; LEVELS_MAX]; JOBS_MAX],
+}
 
-pub const CHANGE_ENERGIES: usize = CHANGE_TIMES + CHANGES_MAX;
+const NO_CHANGE: Change = Change { time: 0, energy: 0 };
 
-pub const JOB_TIMES: usize = CHANGE_ENERGIES + CHANGES_MAX;
+const NO_WORK: Work = Work {
+    time: 0,
+    energy: 0,
+    decay: 0,
+};
 
-pub const JOB_ENERGIES: usize = JOB_TIMES + WORKS_MAX;
-
-pub const DECAYS: usize = JOB_ENERGIES + WORKS_MAX;
-
-// The figures in all.
-pub const STORE_SIZE: usize = DECAYS + WORKS_MAX;
+impl Store {
+    // A store of no figures.
+    pub fn clear() -> Store
+        ensures { result ≡ clear }
+    {
+        Store {
+            powers: [0; LEVELS_MAX],
+            changes: [[NO_CHANGE; LEVELS_MAX]; LEVELS_MAX],
+            works: [[NO_WORK; LEVELS_MAX]; JOBS_MAX],
+        }
+    }
+}

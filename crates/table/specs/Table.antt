@@ -7,6 +7,7 @@ use Rattle.frame.specs.Sheet.{Sheet, Ranges, limit_max}
 use Rattle.frame.specs.Run.{State, fresh, raised}
 use Rattle.frame.specs.Table.{energy_cells, temperature_cells, need, words_max, place, word}
 use Rattle.run.specs.declared.Run.{Run}
+use Rattle.store.specs.declared.Store.{Store}
 use Rattle.step.specs.Store.{Stored}
 use Rattle.table.specs.declared.Frame.{Frame}
 
@@ -28,7 +29,7 @@ pub record Axes (s : Sheet) (f : Frame) : Type 0 where
   pub allowed : need s ≤ words_max
 
 -- What is handed over is the sheet's: the axes, and the figures in the store and in the list of steady-state temperatures.
-pub record Framed (s : Sheet) (f : Frame) (store steady : List ℕ) : Type 0 where
+pub record Framed (s : Sheet) (f : Frame) (store : Store) (steady : List ℕ) : Type 0 where
   pub axes : Axes s f
   pub stored : Stored s store steady
 

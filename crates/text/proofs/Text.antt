@@ -4,20 +4,19 @@ use mathlib.Core.Path.{◌≡◌, refl, ap, sym, ◌∙◌}
 use mathlib.Core.Bool.{Bool, true, false, cond}
 use mathlib.Core.List.{List, [], ◌∷◌}
 use Prim.Native.Nat.{ℕ, zero, suc, ◌+◌, ◌-◌, ◌≤◌, ◌<◌}
-use native.Mathlib.Nat.{sub-zero, zero-sub, suc-sub-suc}
 use native.Mathlib.Decide.{ℕ_discrete}
 use native.Mathlib.Numerals.{add-one}
 use native.Mathlib.Omega.{arith}
 use lib.Dec.{eqb}
 use lib.ListN.{length, get_or, take, drop, length-take, length-drop}
-use lib.Seq.{drop-cons, take-nil, take_all, drop-drop, get_or-take, get_or-drop}
+use lib.Seq.{drop-cons, get_or-take, get_or-drop}
 use borrow.Author.Tests.{lt-ltb, le-ltb, ltb-true, ltb-false, le-leb, lt-leb, eq-eqb, ne_eqb}
 use Rattle.std.specs.Prelude.{Option, Some, None, position}
 use Rattle.std.specs.List.{position_or_len}
 use Rattle.std.specs.Option.{unwrap_or}
 use Rattle.std.proofs.lemmas.List.Recursion.{is_position_or_len}
 use Rattle.std.proofs.lemmas.Option.{cond_some, none-some}
-use Rattle.text.specs.Text.{before, until, beyond, ahead, next_line, count, part, all}
+use Rattle.text.specs.Text.{before, until, beyond, ahead, next_line, count, all}
 
 -- ---- by the first byte
 
@@ -66,7 +65,7 @@ pub count_none : (b : ℕ) → count b [] ≡ 0
 unfolding count
 count_none b = refl
 
--- ---- parts of a text
+-- ---- the text from a place on
 
 pub drop_none : (s : List ℕ) (i : ℕ) → length s ≤ i → drop i s ≡ []
 drop_none [] zero h = refl
@@ -76,49 +75,6 @@ drop_none (x ∷ s) (suc i) h = drop_none s i (omega arith)
 
 pub drop_here : (s : List ℕ) (i : ℕ) → i < length s → drop i s ≡ get_or s i 0 ∷ drop (i + 1) s
 drop_here s i h = rw add-one (drop-cons s i 0 h)
-
-pub part_none : (a e : ℕ) (s : List ℕ) → e ≤ a → part a e s ≡ []
-unfolding part
-part_none a e s h = let z : e - a ≡ 0 = omega arith in rw z
-
-pub part_here : (a e : ℕ) (s : List ℕ) → a < e → e ≤ length s → part a e s ≡ get_or s a 0 ∷ part (a + 1) e s
-unfolding part
-part_here a e s h k =
-    let z : e - a ≡ suc (e - (a + 1)) = omega arith in
-    let l : a < length s = omega arith in
-    rw (z, drop_here s a)
-
--- The part up to the end of the text.
-pub part_all : (a : ℕ) (s : List ℕ) → part a (length s) s ≡ drop a s
-unfolding part
-part_all a s = take_all (length s - a) (drop a s) (omega (arith, length-drop a s))
-
-pub length_part : (a e : ℕ) (s : List ℕ) → e ≤ length s → length (part a e s) ≡ e - a
-unfolding part
-length_part a e s k = simp (length-take, length-drop) (omega arith)
-
-drop_take : (n m : ℕ) (l : List ℕ) → drop n (take m l) ≡ take (m - n) (drop n l)
-drop_take zero m l = rw sub-zero
-drop_take (suc n) zero l = rw zero-sub refl
-drop_take (suc n) (suc m) [] = rw (take-nil (suc m - suc n))
-drop_take (suc n) (suc m) (x ∷ l) = rw suc-sub-suc (drop_take n m l)
-
-pub drop_part : (n a e : ℕ) (s : List ℕ) → drop n (part a e s) ≡ part (a + n) e s
-unfolding part
-drop_part n a e s = let z : e - a - n ≡ e - (a + n) = omega arith in rw (drop_take n (e - a) (drop a s), drop-drop n a s, z)
-
--- What comes after a field of a line starts one place behind the field.
-pub beyond_part : (b p e : ℕ) (s : List ℕ) → beyond b (part p e s) ≡ part (p + before b (part p e s) + 1) e s
-unfolding beyond
-beyond_part b p e s =
-    let z : p + suc (before b (part p e s)) ≡ p + before b (part p e s) + 1 = omega arith in
-    drop_part (suc (before b (part p e s))) p e s ∙ ap (λ (n : ℕ). part n e s) z
-
-pub beyond_drop : (b p : ℕ) (s : List ℕ) → beyond b (drop p s) ≡ drop (p + before b (drop p s) + 1) s
-unfolding beyond
-beyond_drop b p s =
-    let z : p + suc (before b (drop p s)) ≡ p + before b (drop p s) + 1 = omega arith in
-    drop-drop (suc (before b (drop p s))) p s ∙ ap (λ (n : ℕ). drop n s) z
 
 pub before_le : (b : ℕ) (t : List ℕ) → before b t ≤ length t
 unfolding before
@@ -322,16 +278,3 @@ module _ (lo hi b : ℕ) (t : List ℕ) where
 pub all_none : (lo hi : ℕ) → all lo hi [] ≡ true
 unfolding all
 all_none lo hi = refl
-
-module _ (lo hi : ℕ) (s : List ℕ) (i to : ℕ) (h : i < to) (k : to ≤ length s) where
-  pub part_low : get_or s i 0 < lo → all lo hi (part i to s) ≡ false
-  part_low b = rw (part_here i to s) (all_low lo hi _ _ b)
-
-  pub part_high : lo ≤ get_or s i 0 → hi < get_or s i 0 → all lo hi (part i to s) ≡ false
-  part_high a b = rw (part_here i to s) (all_high lo hi _ _ a b)
-
-  pub part_on : lo ≤ get_or s i 0 → get_or s i 0 ≤ hi → all lo hi (part i to s) ≡ all lo hi (part (i + 1) to s)
-  part_on a b = rw (part_here i to s) (all_on lo hi _ _ a b)
-
-pub part_end : (lo hi : ℕ) (s : List ℕ) (i to : ℕ) → to ≤ i → all lo hi (part i to s) ≡ true
-part_end lo hi s i to h = rw (part_none i to s h) (all_none lo hi)

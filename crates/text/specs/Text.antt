@@ -2,7 +2,7 @@
 -- by one byte 9." The next line of a text is what stands before its first byte 10, and the next field of a line what stands
 -- before its first byte 9.
 -- Assumes nothing.
-use Rattle.std.specs.Prelude.{Bool, true, false, cond, List, [], ◌∷◌, ℕ, suc, ◌-◌, eqb, leb, ltb, length, take, drop, Option, Some, None}
+use Rattle.std.specs.Prelude.{Bool, true, false, cond, List, [], ◌∷◌, ℕ, suc, eqb, leb, ltb, length, take, drop, Option, Some, None}
 
 -- How many bytes stand before the first byte b; all of them where there is none.
 unfoldable pub before : ℕ → List ℕ → ℕ
@@ -29,10 +29,6 @@ next_line t = cond (ahead 10 t) (Some (until 10 t)) None
 unfoldable pub count : ℕ → List ℕ → ℕ
 count b [] = 0
 count b (c ∷ t) = cond (eqb c b) (suc (count b t)) (count b t)
-
--- The bytes from place a up to place e.
-unfoldable pub part : ℕ → ℕ → List ℕ → List ℕ
-part a e t = take (e - a) (drop a t)
 
 -- Every byte lies in a range, both ends included.
 unfoldable pub all : ℕ → ℕ → List ℕ → Bool

@@ -17,7 +17,7 @@ const STRIDE: usize = 8;
 pub struct Line<'a> {
     pub bytes: &'a [u8],
     pub tabs: usize,
-    ghost counted: { tabs ≡ count 9 bytes.now },
+    pub ghost counted: { tabs ≡ count 9 bytes.now },
 }
 
 // The place of the first byte b.
@@ -42,7 +42,7 @@ pub fn find(t: &[u8], b: u8) -> usize
     t.len() - rest.len() + first_place(rest, b).unwrap_or(rest.len())
 }
 
-// What comes after place i of a text; nothing where it ends there.
+// What comes after place i of a text; nothing where it ends there, and no Option, as the reading goes on with it.
 pub fn behind(t: &[u8], i: usize) -> &[u8]
     ensures { result.now ≡ drop (i + 1) t.now }
 {

@@ -18,6 +18,7 @@ use Rattle.frame.proofs.Table.{energy_cell, temperature_cell}
 use Rattle.frame.proofs.Walk.{first_same, alike_cell, least_alike, plan_alike, Goes, goes}
 use Rattle.run.specs.Run.{state_of}
 use Rattle.run.specs.declared.Run.{Run}
+use Rattle.store.specs.declared.Store.{Store}
 use Rattle.table.specs.declared.Frame.{Frame}
 use Rattle.step.specs.Store.{Rests}
 use Rattle.step.proofs.Store.{rests}
@@ -61,7 +62,7 @@ module _ {s : Sheet} {f : Frame} (x : Axes s f) (b : Run) where
 -- ---- a step from a cell
 
 -- What the next job of a cell rests on, at a level of the sheet.
-pub cell_rests : {s : Sheet} {f : Frame} {store steady : List ℕ} → Framed s f store steady → (a : Run) → AtCell s (state_of a) → (j : ℕ) → j < s.levels → Rests a store steady j
+pub cell_rests : {s : Sheet} {f : Frame} {store : Store} {steady : List ℕ} → Framed s f store steady → (a : Run) → AtCell s (state_of a) → (j : ℕ) → j < s.levels → Rests a store steady j
 cell_rests w a at j l =
     let ok = w.axes.ranges in
     rests w.stored a j ok (omega (arith, at.done, ok.jobs.high)) (omega (arith, at.level, ok.levels.high)) (omega (arith, l, ok.levels.high)) (omega (arith, ap (λ (z : State). z.time) at.anew)) (omega (arith, at.energy)) at.temperature

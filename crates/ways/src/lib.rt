@@ -1,8 +1,8 @@
 #![tactic(auto)]
 
-ghost use Rattle.std.specs.Prelude.{◌≡◌, ℕ, ◌+◌, ◌<◌, ◌≤◌, length, get_or};
+ghost use Rattle.std.specs.Prelude.{◌≡◌, ℕ, ◌≤◌, length};
+ghost use Rattle.frame.specs.Table.{tabulate};
 ghost use Rattle.word.specs.Word.{settled};
-ghost use Rattle.spans.specs.Spans.{Spans};
 ghost use Rattle.one_way.specs.Way.{Leads, Opened};
 ghost use Rattle.least_way.specs.Least.{least_by, least_in};
 
@@ -13,22 +13,18 @@ use word::{NO_WAY, seal};
 // Sets the words of a span to the least time by the ways in N places: a word is made at once, and stored once.
 fn by<const N: usize>(table: &[u32], span: &mut [u32], ways: &[Way])
     requires { record { ways : Opened table.now (length span.old) ways.now; some : 1 ≤ N } }
-    ensures { record {
-      long : length span.new ≡ length span.old;
-      words : (q : ℕ) → q < length span.old → get_or span.new q 0 ≡ settled (least_in table.now ways.now N q);
-    } }
+    ensures { span.new ≡ tabulate (λ (q : ℕ). settled (least_in table.now ways.now N q)) 0 (length span.old) }
 {
     for (q, word) in span.iter_mut().enumerate() {
         *word = seal(least::<N>(table, ways, q));
     }
 }
 
-// Sets n words of a span to the least time by the ways that are open to it: 4,294,967,295 "where no way exists".
-pub fn take_span(table: &[u32], words: &mut [u32], at: usize, n: usize, ways: &[Way])
-    requires { record { leads : Leads table.now n ways.now; room : at + n ≤ length words.old } }
-    ensures { Spans words.old words.new at n (λ (q : ℕ). settled (least_by table.now ways.now (length ways.now) q)) }
+// Sets the words of a span to the least time by the ways that are open to it: 4,294,967,295 "where no way exists".
+pub fn take_span(table: &[u32], span: &mut [u32], ways: &[Way])
+    requires { Leads table.now (length span.old) ways.now }
+    ensures { span.new ≡ tabulate (λ (q : ℕ). settled (least_by table.now ways.now (length ways.now) q)) 0 (length span.old) }
 {
-    let span = &mut words[at..at + n];
     match ways.len() {
         0 => span.fill(NO_WAY),
         1..=2 => by::<2>(table, span, ways),

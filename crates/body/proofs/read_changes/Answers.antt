@@ -1,21 +1,21 @@
--- `read_changes` reads what the definition reads, by an invariant of the levels left whose S lines are read (`Changes`).
-use mathlib.Core.Path.{sym, ◌∙◌}
-use native.Mathlib.Omega.{arith}
-use Rattle.body.proofs.Body.{changes_none, changes_all, changes_stop, changes_on}
+-- `read_changes` reads what the definition reads, by an invariant of the levels left whose S lines are read (`PartsLeft`).
 use borrow.Author.Rules.{rules}
+use mathlib.Core.Path.{refl, sym}
+use Rattle.std.proofs.lemmas.Result.{err_from_is_err_and}
+use Rattle.body.specs.Body.{changes_from}
+use Rattle.body.proofs.Body.{parts_all, parts_stop, parts_on}
 use Rattle.body.proofs.read_changes.Goals as goal
 
-pub loop-p-init : goal.loop-p-init
-loop-p-init c = changes_none _ _ _ _ _ (search rules) (search rules) (search rules) (search rules)
-
-pub read_block-b-requires : goal.read_block-b-requires
-read_block-b-requires c = let g = c.loop-p.invariant in (g.within, omega arith, omega arith, g.long)
-
-pub returns-then-is_some : goal.returns-then-is_some
-returns-then-is_some c = changes_stop c.loop-p.invariant (search rules) _ _ c.read_block-b.ensures (sym c.is_some.ensures ∙ c.if-is_some.true)
+pub returns-in_err-place : goal.returns-in_err-place
+unfolding changes_from
+returns-in_err-place c =
+    let p = err_from_is_err_and c.from_residual.result c.from_residual.ensures.1 in
+    rw (p.1, p.2) (parts_stop c.loop-p.invariant (search rules) refl c.in_err-place.ensures)
 
 pub loop-p-preserved : goal.loop-p-preserved
-loop-p-preserved c = changes_on c.loop-p.invariant (search rules) _ _ c.read_block-b.ensures (sym c.is_some.ensures ∙ c.if-is_some.false)
+unfolding changes_from
+loop-p-preserved c = parts_on c.loop-p.invariant (search rules) refl c.in_ok-place.ensures
 
 pub returns : goal.returns
-returns c = changes_all c.loop-p.invariant (search rules)
+unfolding changes_from
+returns c = sym (parts_all c.loop-p.invariant (search rules))

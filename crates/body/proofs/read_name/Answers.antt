@@ -1,23 +1,33 @@
--- `read_name` reads a J line in one pass where `take_name` takes it, and else by `next_line` and `check_name`; both are `NameRead`.
-use borrow.Author.Rules.{rules}
-use Rattle.std.proofs.lemmas.Result.{err_from_is_err_and}
-use Rattle.lines.proofs.Take.{part_behind}
-use Rattle.body.proofs.Body.{name_missing, name_wrong, name_read, name_taken}
+-- `read_name` reads a line J in one pass where `take_name` takes it, and else by `check_name`; both say what the definition says.
+use mathlib.Core.Path.{◌≡◌, refl, sym}
+use mathlib.Core.List.{List}
+use Prim.Native.Nat.{ℕ}
+use native.Mathlib.Omega.{arith}
+use Rattle.std.specs.Prelude.{Option, Some, None}
+use Rattle.std.specs.Option.{option_map}
+use Rattle.text.proofs.Text.{ahead_lt}
+use Rattle.name_lines.specs.Name.{name_fault}
+use Rattle.fast_fields.specs.Take.{line_taken}
+use Rattle.fast_fields.proofs.Line.{LineAt, line_at}
+use Rattle.fast_name_lines.specs.Name.{name_line_max}
+use Rattle.reading.proofs.Rest.{next_taken, read_by}
 use Rattle.body.proofs.read_name.Goals as goal
 
-pub overflow_add-result : goal.overflow_add-result
-overflow_add-result c = let h = (name_taken c.args.s.now c.args.at _ (rw (part_behind c.args.s.now c.args.at) at c.in-Some.ensures)).next.1 in search rules
+-- A line J that is taken ends at a byte 10, and is sound.
+name_at : (t : List ℕ) (n : ℕ) → Some n ≡ option_map (λ line. line.1) (line_taken name_line_max name_fault t) →
+    LineAt name_line_max name_fault t tt n
+name_at t n = go (line_taken name_line_max name_fault t) refl
+  where
+    go : (o : Option (Unit {0} × ℕ)) → line_taken name_line_max name_fault t ≡ o → Some n ≡ option_map (λ line. line.1) o →
+        LineAt name_line_max name_fault t tt n
+    go None q k = absurd cc
+    go (Some line) q k = let y : n ≡ line.1 = cc in rw y (line_at name_line_max name_fault t {a = line.0} {n = line.1} q)
+
+pub behind-requires : goal.behind-requires
+behind-requires c = let z = name_at _ _ c.in-Some.ensures in (omega (arith, z.size), omega (arith, z.size, ahead_lt 10 _ z.ends))
 
 pub returns-in-Some : goal.returns-in-Some
-returns-in-Some c = name_taken c.args.s.now c.args.at _ (rw (part_behind c.args.s.now c.args.at) at c.in-Some.ensures)
-
-pub returns-in_default-next_line : goal.returns-in_default-next_line
-returns-in_default-next_line c = name_missing _ _ (rw (part_behind c.args.s.now c.args.at) at c.in_default-next_line.ensures)
-
-pub returns-in_err-check_name : goal.returns-in_err-check_name
-returns-in_err-check_name c =
-    let p = err_from_is_err_and c.from_residual.result c.from_residual.ensures.1 in
-    rw (p.1, p.2) (name_wrong _ _ _ (rw (part_behind c.args.s.now c.args.at) at c.in-Some-next_line.ensures) _ c.in_err-check_name.ensures)
+returns-in-Some c = let z = name_at _ _ c.in-Some.ensures in rw c.behind.ensures (sym (next_taken _ _ _ _ z.ends z.says z.size))
 
 pub returns : goal.returns
-returns c = name_read _ _ _ (rw (part_behind c.args.s.now c.args.at) at c.in-Some-next_line.ensures) c.in_ok-check_name.ensures
+returns c = read_by name_fault _ _ c.read.ensures (λ line said h. h.1)

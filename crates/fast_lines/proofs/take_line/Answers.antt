@@ -23,7 +23,7 @@ returns-in_ok-time-in-Change c =
     change _ _ _ _ c.in-Change.is _ c.cost_range-range.ensures c.in_ok-time-in-Change.ensures
 
 pub returns-in_err-time-in-Work : goal.returns-in_err-time-in-Work
-returns-in_err-time-in-Work c = c.from_residual-in_err-time-in-Work.ensures ∙ work _ _ _ c.in-Work.is c.in_err-time-in-Work.ensures
+returns-in_err-time-in-Work c = c.from_residual-in_err-time-in-Work.ensures ∙ work _ _ _ _ c.in-Work.is c.in_err-time-in-Work.ensures
 
 pub returns-in_ok-time-in-Work : goal.returns-in_ok-time-in-Work
-returns-in_ok-time-in-Work c = work _ _ _ c.in-Work.is c.in_ok-time-in-Work.ensures
+returns-in_ok-time-in-Work c = work _ _ _ _ c.in-Work.is c.in_ok-time-in-Work.ensures

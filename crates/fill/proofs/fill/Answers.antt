@@ -14,7 +14,7 @@ loop-i-init c =
     let p = c.args.problem.now in
     let s = sheet_for p in
     let z : base s p.frame.head.jobs 0 ≡ base s s.jobs 0 = ap (λ (n : ℕ). base s n 0) p.framed.axes.jobs in
-    record { moves_long = refl; part_long = refl; filled = subst (λ (k : ℕ). FilledFrom s k c.args.table.now c.args.table.now) (sym (z ∙ base_need s)) (filled_none s _) }
+    record { moves_long = refl; filled = subst (λ (k : ℕ). FilledFrom s k c.args.table.now c.args.table.now) (sym (z ∙ base_need s)) (filled_none s _) }
 
 pub loop-i-preserved : goal.loop-i-preserved
 loop-i-preserved c =
@@ -23,8 +23,7 @@ loop-i-preserved c =
     let s = sheet_for c.args.problem.now in
     record {
       moves_long = omega (arith, w.auto, l.invariant.moves_long);
-      part_long = omega (arith, w.auto, l.invariant.part_long);
-      filled = filled_trans (base_mono s (l.i - 1) l.i (omega arith)) l.invariant.filled w.ensures.filled;
+      filled = filled_trans (base_mono s (l.i - 1) l.i (omega arith)) l.invariant.filled w.ensures;
     }
 
 pub returns : goal.returns

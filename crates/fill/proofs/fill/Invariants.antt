@@ -4,7 +4,6 @@ use lib.ListN.{length}
 use Rattle.store.specs.Store.{changes_max}
 use Rattle.table.specs.Table.{base}
 use Rattle.table.specs.Problem.{sheet_for}
-use Rattle.one_level.specs.Level.{scratch_size}
 use Rattle.fill.specs.Layer.{FilledFrom}
 use Rattle.fill.proofs.fill.Given as goal
 
@@ -12,6 +11,5 @@ abbrev pub invariant-loop-i : goal.invariant-loop-i
 invariant-loop-i l =
     record {
       moves_long : length l.moves ≡ changes_max;
-      part_long : length l.part ≡ scratch_size;
       filled : FilledFrom (sheet_for l.problem) (base (sheet_for l.problem) l.i 0) l.initial.table l.table;
     }

@@ -41,7 +41,7 @@ relax_words-requires c =
     let m = c.find_moves.ensures in
     let x = c.expand_job.ensures in
     record {
-      room = record { inside = omega (arith, room_by _ g.ranges i a.job m g.levels (cells_by g) (start_is g i), a.room, x.kept.long); parts = a.scratch };
+      inside = omega (arith, room_by _ g.ranges i a.job m g.levels (cells_by g) (start_is g i), a.room, x.kept.long);
       lows = record { low = lows_by _ g.ranges i a.job m g.levels (cells_by g) (start_is g i) x };
     }
 
@@ -49,8 +49,4 @@ pub returns : goal.returns
 returns c =
     let a = c.requires in
     let g = c.args.problem.now.framed.axes in
-    let r = c.relax_words.ensures in
-    record {
-      filled = filled_by _ g.ranges c.args.i a.job c.find_moves.ensures g.levels (cells_by g) (start_is g c.args.i) c.expand_job.ensures a.next r.words;
-      scratch = r.scratch;
-    }
+    filled_by _ g.ranges c.args.i a.job c.find_moves.ensures g.levels (cells_by g) (start_is g c.args.i) c.expand_job.ensures a.next c.relax_words.ensures

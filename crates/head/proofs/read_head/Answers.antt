@@ -20,4 +20,5 @@ returns-in_err-others c =
 
 pub returns : goal.returns
 returns c =
-    head_whole _ _ (sym c.if-not-opens_with.ensures) _ (rw c.behind.ensures at (sym c.in_ok-counts.ensures)) _ c.saturating_sub.ensures _ (sym c.in_ok-others.ensures)
+    rw c.head_of.ensures
+    (head_whole _ _ (sym c.if-not-opens_with.ensures) _ (rw c.behind.ensures at (sym c.in_ok-counts.ensures)) _ c.saturating_sub.ensures _ (sym c.in_ok-others.ensures))

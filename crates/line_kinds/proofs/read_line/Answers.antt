@@ -13,7 +13,7 @@ returns-in_err-time-in-Change c =
 pub returns-in_err-time-in-Work : goal.returns-in_err-time-in-Work
 returns-in_err-time-in-Work c =
     let p = err_from_is_err_and c.from_residual-in_err-time-in-Work.result c.from_residual-in_err-time-in-Work.ensures.1 in
-    rw (p.1, p.2) (for_work_fault _ _ _ c.in-Work.is _ (sym c.in_err-time-in-Work.ensures))
+    rw (p.1, p.2) (for_work_fault _ _ _ _ c.in-Work.is _ (sym c.in_err-time-in-Work.ensures))
 
 pub returns-in-Level : goal.returns-in-Level
 unfolding fields_for
@@ -24,4 +24,4 @@ returns-in_ok-time-in-Change c =
     for_change _ _ _ _ c.in-Change.is _ c.cost_range-range.ensures _ (sym c.in_ok-time-in-Change.ensures)
 
 pub returns-in_ok-time-in-Work : goal.returns-in_ok-time-in-Work
-returns-in_ok-time-in-Work c = for_work _ _ _ c.in-Work.is _ (sym c.in_ok-time-in-Work.ensures)
+returns-in_ok-time-in-Work c = for_work _ _ _ _ c.in-Work.is _ (sym c.in_ok-time-in-Work.ensures)

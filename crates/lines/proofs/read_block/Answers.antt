@@ -1,47 +1,26 @@
--- `read_block` reads what the definition says: the lines that `take_lines` took are read, and each line behind them by `read_line` and
--- `put_entry`.
-use mathlib.Core.Path.{sym}
+-- `read_block` reads what the definition says: behind each line, the lines that are left are those that the definition reads next.
+use mathlib.Core.Path.{sym, ◌∙◌}
 use native.Mathlib.Omega.{arith}
-use borrow.Author.Rules.{rules}
-use Rattle.line_kinds.proofs.Figures.{entry_places}
-use Rattle.lines.proofs.Lines.{going_all, going_missing, going_fault, going_on, line_read}
-use Rattle.lines.proofs.Take.{going_took, part_behind}
+use Rattle.std.proofs.lemmas.Result.{err_from_is_err_and}
+use Rattle.reading.proofs.Next.{line_read}
+use Rattle.line_kinds.proofs.Figures.{entry_place}
+use Rattle.lines.proofs.Lines.{block_none, block_all, block_stop, block_on}
 use Rattle.lines.proofs.read_block.Goals as goal
 
 pub loop-j-init : goal.loop-j-init
-loop-j-init c = λ old g. g
+loop-j-init c = block_none _ _ _ _
 
-pub slice_bounds-next_line-count : goal.slice_bounds-next_line-count
-slice_bounds-next_line-count c = (c.loop-j.invariant _ (going_took _ _ _ _ _ _ (search rules) (search rules) _ c.take_lines-usual.ensures)).within
-
-pub slice_bounds-next_line-start : goal.slice_bounds-next_line-start
-slice_bounds-next_line-start c =
-    let h = (c.loop-j.invariant _ (going_took _ _ _ _ _ _ (search rules) (search rules) _ c.take_lines-usual.ensures)).within in search rules
-
-pub returns-in_default : goal.returns-in_default
-returns-in_default c =
-    let g = c.loop-j.invariant _ (going_took _ _ _ _ _ _ (search rules) (search rules) _ c.take_lines-usual.ensures) in
-    going_missing g _ c.loop-j-test.true (rw (part_behind c.args.s.now c.loop-j.p) at c.in_default.ensures)
+pub returns-in_err-entry : goal.returns-in_err-entry
+returns-in_err-entry c =
+    let p = err_from_is_err_and c.from_residual.result c.from_residual.ensures.1 in
+    rw (p.1, p.2) (sym (c.loop-j.invariant ∙ block_stop _ _ _ _ _ c.loop-j-test.true _ c.in_err-entry.ensures))
 
 pub put_entry-requires : goal.put_entry-requires
-put_entry-requires c =
-    let g = c.loop-j.invariant _ (going_took _ _ _ _ _ _ (search rules) (search rules) _ c.take_lines-usual.ensures) in
-    record { place = omega (arith, c.requires, c.loop-j-test.true, entry_places _ _ _ _ (sym c.in-Ok.ensures)); long = g.long }
-
-pub returns-in-Err : goal.returns-in-Err
-returns-in-Err c =
-    let g = c.loop-j.invariant _ (going_took _ _ _ _ _ _ (search rules) (search rules) _ c.take_lines-usual.ensures) in
-    going_fault g _ c.loop-j-test.true _ (rw (part_behind c.args.s.now c.loop-j.p) at c.in-Some.ensures) _ c.in-Err.ensures
-
-pub overflow_add-p-in-loop-j : goal.overflow_add-p-in-loop-j
-overflow_add-p-in-loop-j c =
-    let r = line_read c.args.s.now c.loop-j.p _ (rw (part_behind c.args.s.now c.loop-j.p) at c.in-Some.ensures) _ _ _ c.in-Ok.ensures in
-    let h = r.within in search rules
+put_entry-requires c = (omega arith, entry_place _ _ _ _ (line_read _ _ _ (sym c.in_ok-entry.ensures)).says c.requires.place)
 
 pub loop-j-preserved : goal.loop-j-preserved
 loop-j-preserved c =
-    let r = line_read c.args.s.now c.loop-j.p _ (rw (part_behind c.args.s.now c.loop-j.p) at c.in-Some.ensures) _ _ _ c.in-Ok.ensures in
-    λ old h. rw c.put_entry.ensures (going_on (c.loop-j.invariant old h) c.loop-j-test.true r)
+    rw c.put_entry.ensures (c.loop-j.invariant ∙ block_on _ _ _ _ _ c.loop-j-test.true _ _ c.in_ok-entry.ensures)
 
 pub returns : goal.returns
-returns c = going_all (c.loop-j.invariant _ (going_took _ _ _ _ _ _ (search rules) (search rules) _ c.take_lines-usual.ensures)) _ c.loop-j-test.false
+returns c = sym (c.loop-j.invariant ∙ block_all _ _ _ _ _ c.loop-j-test.false)

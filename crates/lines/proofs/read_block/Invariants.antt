@@ -1,9 +1,9 @@
--- `read_block` reads what the definition says: the lines that `take_lines` took are read, and each line behind them by `read_line` and
--- `put_entry`.
-use mathlib.Core.List.{List}
-use Prim.Native.Nat.{ℕ}
-use Rattle.lines.proofs.Lines.{Going}
+-- `read_block` reads what the definition says: behind each line, the lines that are left are those that the definition reads next.
+use mathlib.Core.Path.{◌≡◌}
+use Prim.Native.Nat.{◌-◌}
+use Rattle.reading.specs.Rest.{rest_of}
+use Rattle.lines.specs.Lines.{block_from}
 use Rattle.lines.proofs.read_block.Given as goal
 
 abbrev pub invariant-loop-j : goal.invariant-loop-j
-invariant-loop-j l = (old : List ℕ) → Going l.s l.at l.kind l.base l.n old l.initial.store l.initial.p l.initial.j → Going l.s l.at l.kind l.base l.n old l.store l.p l.j
+invariant-loop-j l = block_from l.kind l.n 0 (rest_of l.start) l.fn.store ≡ block_from l.kind (l.n - l.j) l.j (rest_of l.place) l.store

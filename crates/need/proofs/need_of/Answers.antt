@@ -2,7 +2,7 @@
 use Prim.Native.Nat.{◌+◌, ◌*◌, ◌≤◌, ◌<◌, ◌^◌}
 use native.Mathlib.Omega.{arith}
 use Rattle.frame.specs.Sheet.{limit_max}
-use Rattle.store.specs.Store.{works_max}
+use Rattle.store.specs.Store.{jobs_max, levels_max}
 use Rattle.need.proofs.Axes.{need_small, need_is}
 use mathlib.Core.Path.{◌≡◌}
 use Rattle.table.specs.declared.Frame.{Frame}
@@ -11,7 +11,7 @@ use Rattle.need.proofs.need_of.Goals as goal
 
 -- The products by the axes that are handed over.
 small : (f : Frame) → f ≡ axes_of f.head → Lawful f.head →
-    (f.head.jobs * f.head.levels ≤ works_max) × (f.head.jobs * f.head.levels * f.energy_cells ≤ works_max * (limit_max + 1)) ×
+    (f.head.jobs * f.head.levels ≤ jobs_max * levels_max) × (f.head.jobs * f.head.levels * f.energy_cells ≤ jobs_max * levels_max * (limit_max + 1)) ×
     (f.head.jobs * f.head.levels * f.energy_cells * f.temperature_cells < 2 ^ 63)
 small f e h = rw e (need_small f.head h.store h.ranges)
 

@@ -5,4 +5,4 @@ use Rattle.next_cells.specs.Next.{next_cell}
 use Rattle.next_cells.proofs.map_cells.Given as goal
 
 abbrev pub invariant-loop-b : goal.invariant-loop-b
-invariant-loop-b l = Spans l.initial.table l.table l.at l.b (next_cell (sheet_for l.problem) l.i l.j)
+invariant-loop-b l = Spans l.initial.row l.row 0 l.b (next_cell (sheet_for l.problem) l.i l.j)

@@ -9,6 +9,7 @@ use Rattle.frame.specs.Sheet.{Ranges}
 use Rattle.frame.specs.Run.{State}
 use Rattle.frame.specs.Afresh.{jobs_left}
 use Rattle.frame.specs.Table.{need}
+use Rattle.store.specs.declared.Store.{Store}
 use Rattle.store.specs.declared.Head.{Head}
 use Rattle.store.specs.Figures.{sheet_of}
 use Rattle.run.specs.Run.{state_of}
@@ -23,7 +24,7 @@ use Rattle.demands.proofs.Order.{answers_sheet, answers_lack, answers_fault, ans
 use Rattle.planner.proofs.plan_left.Goals as goal
 
 -- What is lacking is so of the sheet, whose need was worked out.
-lacking : (head : Head) (store : List ℕ) (a : State) (words bytes : ℕ) {f : Frame} {n left : ℕ} {lack : Option Refusal} → let s = sheet_of head store in
+lacking : (head : Head) (store : Store) (a : State) (words bytes : ℕ) {f : Frame} {n left : ℕ} {lack : Option Refusal} → let s = sheet_of head store in
     f ≡ axes_of head → n ≡ need (bare f.head) → left ≡ jobs_left s a → lack_of n left words bytes ≡ lack → lack_of (need s) (jobs_left s a) words bytes ≡ lack
 lacking head store a words bytes e k l q =
     let z = rw e at k ∙ need_any head store in

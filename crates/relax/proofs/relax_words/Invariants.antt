@@ -1,7 +1,5 @@
 -- A part of every level more with each turn of the loop: what is still to be read stands behind what is written, and is as it was.
-use mathlib.Core.Path.{◌≡◌}
 use Prim.Native.Nat.{ℕ, ◌≤◌}
-use lib.ListN.{length}
 use Rattle.word.specs.Word.{settled}
 use Rattle.open_ways.specs.Layer.{relaxed}
 use Rattle.relax.specs.Levels.{Levels}
@@ -11,6 +9,5 @@ abbrev pub invariant-loop-x : goal.invariant-loop-x
 invariant-loop-x l =
     record {
       most : l.x ≤ l.layer.cells;
-      part_long : length l.part ≡ length l.initial.part;
       words : Levels l.initial.table l.table l.layer.at l.layer.levels l.layer.cells 0 l.x (λ (p y : ℕ). settled (relaxed l.layer l.initial.table p y));
     }

@@ -5,6 +5,7 @@ use native.Mathlib.Omega.{arith}
 use lib.ListN.{length, replicate}
 use Prim.Native.Nat.{ℕ, ◌≤◌, ◌<◌}
 use Rattle.std.specs.Prelude.{Some, Result, Ok, Err}
+use Rattle.store.specs.declared.Store.{Store}
 use Rattle.store.specs.declared.Head.{Head}
 use Rattle.refusal.specs.declared.Refusal.{Refusal}
 use Rattle.refusal.specs.declared.Refusal.TheVariants.{NoPlan}
@@ -35,7 +36,7 @@ unfolding answer_in
 told s = answer_told _ table_words
 
 -- A sheet that is refused is told so.
-away : (s : List ℕ) {r : Result Head Refusal} (f : Refusal) (st text : List ℕ) → read_in r st ≡ reading_of s → r ≡ Err f →
+away : (s : List ℕ) {r : Result Head Refusal} (f : Refusal) (st : Store) (text : List ℕ) → read_in r st ≡ reading_of s → r ≡ Err f →
     (report_by (Err f) ≡ report_of s (length text) (answer_in s)) × (text ≡ text_after s (answer_in s) text)
 away s f st text e m =
     let q : read_in (Err f) st ≡ reading_of s = rw m at e in

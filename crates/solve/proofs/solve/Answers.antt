@@ -8,6 +8,7 @@ use lib.Seq.{get_or-take, length-take-le}
 use Rattle.std.specs.Prelude.{Ok}
 use Rattle.frame.specs.Run.{State}
 use Rattle.store.specs.declared.Head.{Head}
+use Rattle.store.specs.declared.Store.{Store}
 use Rattle.store.specs.Figures.{sheet_of}
 use Rattle.step.proofs.Store.{steady_small}
 use Rattle.reply.specs.Reply.{reply_by}
@@ -17,7 +18,7 @@ use Rattle.solve.proofs.Finding.{plan_levels, answers_plan, answers_none}
 use Rattle.solve.proofs.solve.Goals as goal
 
 -- The figures hold the store that was handed over, and so what is found is found for its sheet.
-same_sheet : (h : Head) {st store words words' bytes bytes' : List ℕ} {n : ℕ} {a : State} {b : Bool} → st ≡ store → Finds (sheet_of h st) n a words words' bytes bytes' b →
+same_sheet : (h : Head) {st store : Store} {words words' bytes bytes' : List ℕ} {n : ℕ} {a : State} {b : Bool} → st ≡ store → Finds (sheet_of h st) n a words words' bytes bytes' b →
     Finds (sheet_of h store) n a words words' bytes bytes' b
 same_sheet h e w = rw e at w
 

@@ -6,6 +6,7 @@ use native.Mathlib.Decide.{dec_lt}
 use lib.ListN.{length, get_or, set}
 use lib.Seq.{get_or-set_same, get_or-set_other}
 use native.Mathlib.Omega.{arith}
+use Rattle.frame.proofs.Tabulate.{tabulated}
 use Rattle.one_way.proofs.Slots.{leads_less}
 use Rattle.least_way.proofs.Places.{settled_as}
 use Rattle.ways.proofs.by.Goals as goal
@@ -25,3 +26,6 @@ one_more words n w f l h e k i =
 
 pub loop-q-preserved : goal.loop-q-preserved
 loop-q-preserved g c = one_more _ _ _ _ (omega (arith, c.loop-q-test.true, c.loop-q.auto.span)) c.loop-q.invariant (c.seal.ensures ∙ settled_as c.least.ensures)
+
+pub returns : goal.returns
+returns g c = tabulated _ _ _ (omega (arith, c.loop-q.auto.span)) (λ q l. c.loop-q.invariant q (omega arith))

@@ -7,7 +7,7 @@ use Rattle.thermal.specs.Thermal.{temperature_after}
 use Rattle.frame.specs.Sheet.{Sheet}
 use Rattle.frame.specs.Run.{State, change, job, step}
 use Rattle.run.specs.declared.Run.{Run}
-use Rattle.run.specs.declared.Change.{Change}
+use Rattle.store.specs.declared.Change.{Change}
 use Rattle.run.specs.declared.Job.{Job}
 use Rattle.run.specs.Run.{state_of, FiguresOf}
 use Rattle.run.proofs.Run.after.Goals as goal
