@@ -14,6 +14,8 @@ ghost use Rattle.report.specs.Report.{answer_in, report_of, text_after};
 ghost use Rattle.c_values.specs.Values.{minus, reply_in, figures_of, measured_in};
 ghost use Rattle.begbija.specs.Begbija.{text_number, need_number, TextDemands};
 
+use afresh::Reading;
+
 // The bytes of plan text written, or minus the refusal.
 #[unsafe(no_mangle)]
 pub extern "C" fn begbija_plan_text(sheet: &[u8], text: &mut [u8]) -> i64
@@ -58,7 +60,14 @@ pub extern "C" fn begbija_plan_afresh(
     ensures answers { Answers (afresh_of sheet.now (reading done level time energy temperature) (length table.old) (length levels.old)) table.old table.new levels.old levels.new (reply_in reply.new) }
     ensures afresh_demands { AfreshDemands sheet.now (reading done level time energy temperature) (length table.old) (length levels.old) levels.new (reply_in reply.new) }
 {
-    let a = afresh::plan_afresh(sheet, done, level, time, energy, temperature, table, levels);
+    let reading = Reading {
+        done,
+        level,
+        time,
+        energy,
+        temperature,
+    };
+    let a = afresh::plan_afresh(sheet, reading, table, levels);
     c_values::put_reply(a, reply);
     c_values::count_or_refusal(a.and(Ok(0)))
 }

@@ -48,7 +48,7 @@ pub fn put_reply(r: Result<Totals, Refusal>, reply: &mut [u64; 7])
     }
 }
 
-// Writes what the measuring call says for C.
+// Writes what the measuring call says for C. Apart from `put_reply`: these figures are signed, and there are six, not seven.
 #[inline(never)]
 pub fn put_margins(m: Result<Margins, Refusal>, margins: &mut [i64; 6])
     requires { IfErr m (λ f. (line_of f < 2 ^ 63) × (field_of f < 2 ^ 63)) }

@@ -10,6 +10,7 @@
 // energy and final temperature, and what was left in memory: the bytes of the part as digits, and the table's words in one figure.
 ghost use Rattle.std.specs.Prelude.{◌<◌, ◌≤◌, length, IfSome};
 
+use afresh::Reading;
 use refusal::Refusal;
 use reply::Totals;
 use std::fmt::Display;
@@ -76,25 +77,13 @@ fn weigh(table: &Table) -> u64 {
     weighed
 }
 
-// Writes the planner's reply but for its peak, which document 01 leaves open, and what the whole table and part hold after it.
-fn print_answer(out: &impl Print, reply: Result<Totals, Refusal>, table: &Table, part: &Part) {
-    print_outcome(out, reply.map(|t| [t.time, t.energy, t.temperature]));
-    print_part(out, part);
-    let _ = print!(out; "\t{}", weigh(table));
-}
-
 // The number in the field at place i of a part whose fields are parted by tabs, at most `most`; 0 where there is none, which is what
 // every caller takes then.
 fn number_in(s: &[u8], i: usize, most: usize) -> usize
     ensures { result ≤ most }
 {
-    let Some(field) = s.split(|b| *b == TAB).nth(i) else {
-        return 0;
-    };
-    match numbers::read_number(field) {
-        Some(number) => number.value.min(most as u64) as usize,
-        None => 0,
-    }
+    let number = s.split(|b| *b == TAB).nth(i).and_then(numbers::read_number);
+    number.map_or(0, |n| n.value).min(most as u64) as usize
 }
 
 // A figure of a reading.
@@ -102,38 +91,34 @@ fn figure_in(s: &[u8], i: usize) -> u32 {
     number_in(s, i, FIGURE_MAX) as u32
 }
 
-// Plans a sheet with the first words of a table of zeros and the first bytes of a part that holds no levels.
-fn print_plan(out: &impl Print, case: Case) {
-    let mut table: Table = [0; TABLE_SIZE];
-    let mut part: Part = [9; JOBS_MAX];
-    let words = number_in(case.numbers, 0, TABLE_SIZE);
-    let bytes = number_in(case.numbers, 1, JOBS_MAX);
-    let reply = planner::plan(case.sheet, &mut table[..words], &mut part[..bytes]);
-    print_answer(out, reply, &table, &part);
+// The reading in the numbers of a case.
+fn reading_in(s: &[u8]) -> Reading {
+    Reading {
+        done: figure_in(s, 2),
+        level: figure_in(s, 3),
+        time: figure_in(s, 4),
+        energy: figure_in(s, 5),
+        temperature: figure_in(s, 6),
+    }
 }
 
-// Plans a sheet afresh from the reading in the numbers of a case, with memory as in `print_plan`.
-fn print_afresh(out: &impl Print, case: Case) {
+// Plans with the first words of a table of zeros and the first bytes of a part that holds no levels. Writes the planner's reply but
+// for its peak, which document 01 leaves open, and what the whole table and part hold after it.
+fn print_plan<F: FnOnce(&mut [u32], &mut [u8]) -> Result<Totals, Refusal>>(
+    out: &impl Print,
+    numbers: &[u8],
+    plan: F,
+)
+    requires { F.IsAlwaysCallable plan }
+{
     let mut table: Table = [0; TABLE_SIZE];
     let mut part: Part = [9; JOBS_MAX];
-    let words = number_in(case.numbers, 0, TABLE_SIZE);
-    let bytes = number_in(case.numbers, 1, JOBS_MAX);
-    let done = figure_in(case.numbers, 2);
-    let level = figure_in(case.numbers, 3);
-    let time = figure_in(case.numbers, 4);
-    let energy = figure_in(case.numbers, 5);
-    let temperature = figure_in(case.numbers, 6);
-    let reply = afresh::plan_afresh(
-        case.sheet,
-        done,
-        level,
-        time,
-        energy,
-        temperature,
-        &mut table[..words],
-        &mut part[..bytes],
-    );
-    print_answer(out, reply, &table, &part);
+    let words = number_in(numbers, 0, TABLE_SIZE);
+    let bytes = number_in(numbers, 1, JOBS_MAX);
+    let reply = plan(&mut table[..words], &mut part[..bytes]);
+    print_outcome(out, reply.map(|t| [t.time, t.energy, t.temperature]));
+    print_part(out, &part);
+    let _ = print!(out; "\t{}", weigh(&table));
 }
 
 // Writes the line of one case.
@@ -144,8 +129,13 @@ fn print_case(out: &impl Print, case: Case) {
     for i in [0, 1, JOBS_MAX] {
         print_name(out, case.sheet, i);
     }
-    print_plan(out, case);
-    print_afresh(out, case);
+    let reading = reading_in(case.numbers);
+    print_plan(out, case.numbers, |table, part| {
+        planner::plan(case.sheet, table, part)
+    });
+    print_plan(out, case.numbers, |table, part| {
+        afresh::plan_afresh(case.sheet, reading, table, part)
+    });
     print_bytes(out, b"\n");
 }
 
@@ -176,7 +166,7 @@ fn take_case<'a>(text: &mut &'a [u8]) -> Option<Case<'a>>
 }
 
 // Reads until the input ends, reading fails or the buffer is full, and hands back how many bytes came: any number at a time, so that
-// no range has the steps of the loop.
+// no range has the steps of the loop. Not as `read_sheet` of `plan`: a failed read ends the input, and what came is taken.
 fn read_input(stdin: &mut Stdin, input: &mut [u8]) -> usize
     ensures { result ≤ length input.new }
 {

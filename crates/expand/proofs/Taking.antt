@@ -6,7 +6,8 @@ use Rattle.std.specs.Prelude.{Option, Some, None, IfSome}
 use Prim.Native.Nat.{ℕ, ◌+◌, ◌*◌, ◌-◌, ◌≤◌, ◌<◌}
 use native.Mathlib.Nat.{add-mul}
 use native.Mathlib.Omega.{arith}
-use lib.ListN.{get_or}
+use lib.ListN.{length, get_or, take, drop}
+use Rattle.std.proofs.lemmas.List.{get_or-take, get_or-drop, length-take-le, length-drop}
 use borrow.Author.Tests.{lt-ltb, le-ltb}
 use Rattle.word.specs.Word.{far, near}
 use Rattle.spans.specs.Spans.{Spans}
@@ -15,6 +16,22 @@ use Rattle.cell_map.specs.declared.rows.Rows.{Rows}
 use Rattle.cell_map.specs.Rows.{gathered, finished, Leading, Behind}
 use Rattle.cell_map.proofs.Cells.{led, gathered_row, finished_row, row_room}
 use Rattle.expand.specs.Laid.{lead, laid}
+
+-- What the map as a slice leads to, in the words of the table.
+pub leading_words : {t : List ℕ} {at map width n : ℕ} → at ≡ map → at + width ≤ length t →
+    let xs = take (at + width - at) (drop at t) in Leading xs 0 (length xs) n → Leading t map width n
+leading_words {t} {at} {map} {width} {n} e room l =
+    let xs = take (at + width - at) (drop at t) in
+    let long : length xs ≡ width = length-take-le (at + width - at) (drop at t) (omega (arith, room, length-drop at t)) ∙ omega arith in
+    let read : (k : ℕ) → k < width → get_or xs (0 + k) 0 ≡ get_or t (map + k) 0 =
+    (λ k h.
+    let z : 0 + k ≡ k = omega arith in
+    rw (z, ← e) (get_or-take (at + width - at) (drop at t) k 0 (omega arith) ∙ get_or-drop at t k 0)) in
+    record {
+      most = omega (arith, l.most, long);
+      within = λ k h. omega (arith, l.within k h, read k (omega (arith, l.most, long)), long);
+      beyond = λ k h g. omega (arith, l.beyond k h (omega (arith, long)), read k g, long);
+    }
 
 module _ (old : List ℕ) (map width n : ℕ) (lead : Leading old map width n) where
   -- One row more: its first n cells by the words v of the cells that the map names, and `far`.

@@ -15,7 +15,7 @@ use word::FAR;
 const SHORT_ROW: usize = 16;
 
 // Writes the first n cells of row a, which lead to a cell: from the rows of the next job, or 0 after the last job. What is read and what
-// is written lie in one table, so that a row is told by its place.
+// is written lie in one table, so that a row is told by its place; `next` is the place of the next job's rows, and of no `Rows` of its own.
 fn lead_row(table: &mut [u32], rows: Rows, a: usize, n: usize, next: Option<usize>)
     requires { record {
       row : a < rows.count;
@@ -41,7 +41,8 @@ fn write_rows(table: &mut [u32], rows: Rows, next: Option<usize>)
     } }
     ensures { Spans table.old table.new rows.at (rows.count * rows.width) (λ (y : ℕ). laid table.old (rows.at + (rows.count - 1) * rows.width) next rows.width y) }
 {
-    let n = count_leading(table, rows.last_row(), rows.width);
+    let last = rows.last_row();
+    let n = count_leading(&table[last..last + rows.width]);
     for a in 0..rows.count {
         lead_row(table, rows, a, n, next);
         set(table, rows.at + a * rows.width + n, rows.width - n, FAR);

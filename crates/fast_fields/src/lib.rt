@@ -27,7 +27,7 @@ pub fn take_number(t: &[u8], stop: u8, range: Range) -> Option<(u32, usize)>
     ensures { result ≡ taken stop range t.now }
 {
     let mut v: u32 = 0;
-    let mut digits: usize = 0;
+    let mut digits: usize = 0; // no `enumerate`: the count is needed behind the loop, where its place is gone
     for b in &t[..DIGITS_TAKEN] {
         if !b.is_ascii_digit() {
             break;

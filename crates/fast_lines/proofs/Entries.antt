@@ -1,16 +1,14 @@
 -- Laws of a line of a kind that is taken in one pass: what its numbers say.
 -- Assumes nothing.
-use mathlib.Core.Path.{◌≡◌, refl, sym}
+use mathlib.Core.Path.{◌≡◌, refl, sym, ◌∙◌}
 use mathlib.Core.Bool.{Bool, true, false, cond}
 use mathlib.Core.List.{List, [], ◌∷◌}
-use Prim.Native.Nat.{ℕ, ◌+◌, ◌≤◌, ◌<◌}
+use Prim.Native.Nat.{ℕ, ◌+◌}
 use lib.Dec.{leb}
 use lib.ListN.{length, get_or}
-use borrow.Author.Tests.{lt-ltb, le-ltb}
 use Rattle.std.specs.Prelude.{Option, Some, None, Result, Ok, Err}
-use Rattle.std.specs.Option.{option_and_then}
-use Rattle.thermal.specs.Thermal.{steady_state}
-use Rattle.frame.specs.Sheet.{temperature_max}
+use Rattle.std.specs.Option.{option_and_then, option_map}
+use Rattle.std.specs.Result.{result_ok}
 use Rattle.text.specs.Text.{before, until, ahead}
 use Rattle.fields.specs.Fields.{after, fields_of}
 use Rattle.fields.specs.declared.Fault.{Fault}
@@ -20,9 +18,7 @@ use Rattle.fast_fields.proofs.Line.{line_at}
 use Rattle.line_kinds.specs.declared.Kind.{Kind}
 use Rattle.line_kinds.specs.declared.Kind.TheVariants.{Level, Change, Work}
 use Rattle.line_kinds.specs.declared.Entry.{Entry}
-use Rattle.line_kinds.specs.declared.Entry.TheVariants.{Level as LevelEntry}
-use Rattle.line_kinds.specs.Figures.{cost_range, level_ranges, work_ranges, steady_fields, level_fields, change_fields, work_fields, fields_for}
-use Rattle.line_kinds.proofs.Figures.{change_entry, work_entry}
+use Rattle.line_kinds.specs.Figures.{cost_range, level_ranges, work_ranges, steady_fields, level_fields, change_entry, work_entry, change_fields, work_fields, fields_for}
 use Rattle.fast_lines.specs.Take.{room_for, room_of, entry_taken}
 
 -- What is made of numbers that were taken.
@@ -42,6 +38,11 @@ of_numbers room read f says t e {r} q = rw (q, e) (go (leb room (length t)) (ahe
     go true false x = refl
     go false b x = refl
 
+-- What is made of numbers that say r is what r holds, where that is no fault.
+held : (r : Result Entry Fault) (n : ℕ) → after {X = Option (Entry × ℕ)} r (λ g. None) (λ a. Some (a, n)) ≡ option_map (λ a. (a, n)) (result_ok r)
+held (Ok a) n = refl
+held (Err g) n = refl
+
 module _ (kind : Kind) (j : ℕ) (t : List ℕ) where
   -- An L line.
   module _ (resistance : ℕ) (k : kind ≡ Level resistance) where
@@ -50,14 +51,9 @@ module _ (kind : Kind) (j : ℕ) (t : List ℕ) where
     unfolding entry_taken fields_for level_fields
     level e = rw k (of_numbers _ _ (λ vs. steady_fields resistance (get_or vs 0 0)) (fields_for (Level resistance) j) t refl e)
 
-    module _ (n : ℕ) (vs : List ℕ) (e : Some (vs, n) ≡ line_taken (room_for 1) (fields_of 76 level_ranges) t) where
-      pub level_hot : temperature_max < steady_state (get_or vs 0 0) resistance → None ≡ entry_taken kind j t
-      unfolding steady_fields
-      level_hot h = rw (lt-ltb temperature_max (steady_state (get_or vs 0 0) resistance) h) at (level e)
-
-      pub level_so : steady_state (get_or vs 0 0) resistance ≤ temperature_max → Some (LevelEntry (get_or vs 0 0), n) ≡ entry_taken kind j t
-      unfolding steady_fields
-      level_so h = rw (le-ltb temperature_max (steady_state (get_or vs 0 0) resistance) h) at (level e)
+    pub level_held : (n : ℕ) (vs : List ℕ) → Some (vs, n) ≡ line_taken (room_for 1) (fields_of 76 level_ranges) t → (r : Result Entry Fault) →
+        r ≡ steady_fields resistance (get_or vs 0 0) → (o : Option Entry) → o ≡ result_ok r → option_map (λ a. (a, n)) o ≡ entry_taken kind j t
+    level_held n vs e r q o p = rw (p, q) (sym (held (steady_fields resistance (get_or vs 0 0)) n) ∙ level e)
 
   -- An S line, of which both numbers have the range.
   module _ (p : ℕ) (k : kind ≡ Change p) (range : Range) (m : range ≡ cost_range p j) where

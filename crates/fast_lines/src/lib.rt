@@ -7,8 +7,7 @@ ghost use Rattle.fast_lines.specs.Take.{room_for, entry_taken};
 
 use fast_fields::DIGITS_TAKEN;
 use fields::Range;
-use line_kinds::{COST, DECAY, Entry, JOB_TIME, Kind, POWER, STEADY_STATE_MAX};
-use store::{Change, Work};
+use line_kinds::{COST, DECAY, Entry, JOB_TIME, Kind, POWER};
 use text::{LINE_END, TAB};
 
 // What a number needs that is taken: its digits, and the byte behind them.
@@ -27,7 +26,7 @@ fn take_numbers<const N: usize>(
         return None;
     }
     let mut values = [0; N];
-    let mut at = 2;
+    let mut at = 2; // a sum of what was taken, by which no list can be gone over, and needed behind the loop
     for (j, range) in ranges.iter().enumerate() {
         let stop = if j + 1 < N { TAB } else { LINE_END };
         let (value, digits) = fast_fields::take_number(&t[at..], stop, *range)?;
@@ -44,24 +43,17 @@ pub fn take_line(t: &[u8], kind: Kind, j: usize) -> Option<(Entry, usize)>
     match kind {
         Kind::Level(resistance) => {
             let ([power], n) = take_numbers(t, b'L', [POWER])?;
-            if STEADY_STATE_MAX < thermal::steady_state(power, resistance) {
-                return None;
-            }
-            Some((Entry::Level(power), n))
+            let entry = line_kinds::level_entry(power, resistance).ok()?;
+            Some((entry, n))
         }
         Kind::Change(p) => {
             let range = line_kinds::cost_range(p, j);
-            let ([time, energy], n) = take_numbers(t, b'S', [range, range])?;
-            Some((Entry::Change(p, Change { time, energy }), n))
+            let (numbers, n) = take_numbers(t, b'S', [range, range])?;
+            Some((line_kinds::change_entry(p, numbers), n))
         }
         Kind::Work(i) => {
-            let ([time, energy, decay], n) = take_numbers(t, b'B', [JOB_TIME, COST, DECAY])?;
-            let work = Work {
-                time,
-                energy,
-                decay,
-            };
-            Some((Entry::Work(i, work), n))
+            let (numbers, n) = take_numbers(t, b'B', [JOB_TIME, COST, DECAY])?;
+            Some((line_kinds::work_entry(i, numbers), n))
         }
     }
 }

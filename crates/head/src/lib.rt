@@ -8,6 +8,7 @@ use fields::{Fault, Range};
 use store::{Head, JOBS_MAX, LEVELS_MAX, LIMIT_MAX, RESISTANCE_MAX, TEMPERATURE_MAX};
 use text::Line;
 
+// Ranges are written as structs: a constant takes no call.
 const VERSION: Range = Range { least: 1, most: 1 };
 
 const JOBS: Range = Range {

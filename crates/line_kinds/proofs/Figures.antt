@@ -16,32 +16,29 @@ use Rattle.fields.proofs.After.{after_ok, cond_fault}
 use Rattle.line_kinds.specs.declared.Kind.{Kind}
 use Rattle.line_kinds.specs.declared.Kind.TheVariants.{Level, Change, Work}
 use Rattle.line_kinds.specs.declared.Entry.{Entry}
-use Rattle.line_kinds.specs.declared.Entry.TheVariants.{Level as LevelEntry, Change as ChangeEntry, Work as WorkEntry}
+use Rattle.line_kinds.specs.declared.Entry.TheVariants.{Level as LevelEntry}
 use Rattle.frame.specs.Sheet.{temperature_max}
-use Rattle.line_kinds.specs.Figures.{cost_range, level_ranges, change_ranges, work_ranges, steady_fields, level_fields, change_fields, work_fields, fields_for, KindPlace, HasPlace}
+use Rattle.line_kinds.specs.Figures.{cost_range, level_ranges, change_ranges, work_ranges, steady_fields, level_fields, change_entry, work_entry, change_fields, work_fields, fields_for, KindPlace, HasPlace}
 
--- What the numbers of an S line and of a B line say.
-abbrev pub change_entry : ℕ → List ℕ → Entry
-change_entry p vs = ChangeEntry p (record { time = get_or vs 0 0; energy = get_or vs 1 0 })
+module _ (resistance power : ℕ) where
+  pub level_hot : temperature_max < steady_state power resistance → Err (OutOfRange 2) ≡ steady_fields resistance power
+  unfolding steady_fields
+  level_hot h = rw (lt-ltb temperature_max (steady_state power resistance) h) refl
 
-abbrev pub work_entry : ℕ → List ℕ → Entry
-work_entry i vs = WorkEntry i (record { time = get_or vs 0 0; energy = get_or vs 1 0; decay = get_or vs 2 0 })
-
-module _ (resistance : ℕ) (line : List ℕ) where
-  pub level_other : (f : Fault) → fields_of 76 level_ranges line ≡ Err f → Err f ≡ level_fields resistance line
-  unfolding level_fields
-  level_other f e = rw e refl
-
-  module _ (vs : List ℕ) (e : fields_of 76 level_ranges line ≡ Ok vs) where
-    pub level_hot : temperature_max < steady_state (get_or vs 0 0) resistance → Err (OutOfRange 2) ≡ level_fields resistance line
-    unfolding level_fields steady_fields
-    level_hot h = rw (e, lt-ltb temperature_max (steady_state (get_or vs 0 0) resistance) h) refl
-
-    pub level_sound : steady_state (get_or vs 0 0) resistance ≤ temperature_max → Ok (LevelEntry (get_or vs 0 0)) ≡ level_fields resistance line
-    unfolding level_fields steady_fields
-    level_sound h = rw (e, le-ltb temperature_max (steady_state (get_or vs 0 0) resistance) h) refl
+  pub level_sound : steady_state power resistance ≤ temperature_max → Ok (LevelEntry power) ≡ steady_fields resistance power
+  unfolding steady_fields
+  level_sound h = rw (le-ltb temperature_max (steady_state power resistance) h) refl
 
 module _ (kind : Kind) (j : ℕ) (line : List ℕ) where
+  module _ (resistance : ℕ) (k : kind ≡ Level resistance) where
+    pub for_level : (vs : List ℕ) → fields_of 76 level_ranges line ≡ Ok vs → steady_fields resistance (get_or vs 0 0) ≡ fields_for kind j line
+    unfolding fields_for level_fields
+    for_level vs e = rw (k, e) refl
+
+    pub for_level_fault : (f : Fault) → fields_of 76 level_ranges line ≡ Err f → Err f ≡ fields_for kind j line
+    unfolding fields_for level_fields
+    for_level_fault f e = rw (k, e) refl
+
   module _ (p : ℕ) (k : kind ≡ Change p) (range : Range) (r : range ≡ cost_range p j) where
     pub for_change : (vs : List ℕ) → fields_of 83 (range ∷ range ∷ []) line ≡ Ok vs → Ok (change_entry p vs) ≡ fields_for kind j line
     unfolding fields_for change_fields

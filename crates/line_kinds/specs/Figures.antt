@@ -37,14 +37,20 @@ steady_fields resistance power = cond (ltb temperature_max (steady_state power r
 unfoldable pub level_fields : ℕ → List ℕ → Result Entry Fault
 level_fields resistance line = after (fields_of 76 level_ranges line) Err (λ vs. steady_fields resistance (get_or vs 0 0))
 
+-- What the numbers of an S line and of a B line say.
+abbrev pub change_entry : ℕ → List ℕ → Entry
+change_entry p vs = ChangeEntry p (record { time = get_or vs 0 0; energy = get_or vs 1 0 })
+
+abbrev pub work_entry : ℕ → List ℕ → Entry
+work_entry i vs = WorkEntry i (record { time = get_or vs 0 0; energy = get_or vs 1 0; decay = get_or vs 2 0 })
+
 -- "S, time, energy of a change (each 0 to 10,000,000)"; S is byte 83
 unfoldable pub change_fields : ℕ → ℕ → List ℕ → Result Entry Fault
-change_fields p j line = after (fields_of 83 (change_ranges p j) line) Err (λ vs. Ok (ChangeEntry p (record { time = get_or vs 0 0; energy = get_or vs 1 0 })))
+change_fields p j line = after (fields_of 83 (change_ranges p j) line) Err (λ vs. Ok (change_entry p vs))
 
 -- "B, time (1 to 10,000,000), energy (0 to 10,000,000), decay (0 to 65,536)"; B is byte 66
 unfoldable pub work_fields : ℕ → List ℕ → Result Entry Fault
-work_fields i line =
-    after (fields_of 66 work_ranges line) Err (λ vs. Ok (WorkEntry i (record { time = get_or vs 0 0; energy = get_or vs 1 0; decay = get_or vs 2 0 })))
+work_fields i line = after (fields_of 66 work_ranges line) Err (λ vs. Ok (work_entry i vs))
 
 -- Line j, from 0, of the lines of a kind.
 unfoldable pub fields_for : Kind → ℕ → List ℕ → Result Entry Fault

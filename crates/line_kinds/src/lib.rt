@@ -2,7 +2,7 @@
 
 ghost use Rattle.std.specs.Prelude.{◌≡◌, ◌<◌};
 ghost use Rattle.store.specs.Store.{levels_max};
-ghost use Rattle.line_kinds.specs.Figures.{cost_range, level_fields, fields_for, put, HasPlace};
+ghost use Rattle.line_kinds.specs.Figures.{cost_range, steady_fields, change_entry, work_entry, fields_for, put, HasPlace};
 
 use fields::{Fault, Range};
 use store::{COST_MAX, Change, DECAY_MAX, POWER_MAX, Store, TEMPERATURE_MAX, Work};
@@ -26,7 +26,7 @@ pub enum Entry {
 }
 
 // The steady-state temperature "must be at most 20,000".
-pub const STEADY_STATE_MAX: u64 = TEMPERATURE_MAX as u64;
+const STEADY_STATE_MAX: u64 = TEMPERATURE_MAX as u64;
 
 pub const POWER: Range = Range {
     least: 0,
@@ -50,15 +50,35 @@ pub const DECAY: Range = Range {
     most: DECAY_MAX,
 };
 
-// Reads an L line: its power, and the steady-state temperature that it gives, are in range.
-fn read_level(line: Line, resistance: u32) -> Result<Entry, Fault>
-    ensures { result ≡ level_fields resistance line.entry.bytes.now }
+// What an L line of a power says: the steady-state temperature that the power gives is in range too.
+pub fn level_entry(power: u32, resistance: u32) -> Result<Entry, Fault>
+    ensures { result ≡ steady_fields resistance power }
 {
-    let [power] = fields::read_fields(line, b'L', [POWER])?;
     if STEADY_STATE_MAX < thermal::steady_state(power, resistance) {
         return Err(Fault::Range(2));
     }
     Ok(Entry::Level(power))
+}
+
+// What an S line says, of a change from level p.
+pub fn change_entry(p: usize, numbers: [u32; 2]) -> Entry
+    ensures { result ≡ change_entry p numbers }
+{
+    let [time, energy] = numbers;
+    Entry::Change(p, Change { time, energy })
+}
+
+// What a B line says, of job i.
+pub fn work_entry(i: usize, numbers: [u32; 3]) -> Entry
+    ensures { result ≡ work_entry i numbers }
+{
+    let [time, energy, decay] = numbers;
+    let work = Work {
+        time,
+        energy,
+        decay,
+    };
+    Entry::Work(i, work)
 }
 
 // The range of the time and of the energy of a change from level p to level j: "From a level to itself both must be 0".
@@ -73,20 +93,18 @@ pub fn read_line(line: Line, kind: Kind, j: usize) -> Result<Entry, Fault>
     ensures { result ≡ fields_for kind j line.entry.bytes.now }
 {
     match kind {
-        Kind::Level(resistance) => read_level(line, resistance),
+        Kind::Level(resistance) => {
+            let [power] = fields::read_fields(line, b'L', [POWER])?;
+            level_entry(power, resistance)
+        }
         Kind::Change(p) => {
             let range = cost_range(p, j);
-            let [time, energy] = fields::read_fields(line, b'S', [range, range])?;
-            Ok(Entry::Change(p, Change { time, energy }))
+            let numbers = fields::read_fields(line, b'S', [range, range])?;
+            Ok(change_entry(p, numbers))
         }
         Kind::Work(i) => {
-            let [time, energy, decay] = fields::read_fields(line, b'B', [JOB_TIME, COST, DECAY])?;
-            let work = Work {
-                time,
-                energy,
-                decay,
-            };
-            Ok(Entry::Work(i, work))
+            let numbers = fields::read_fields(line, b'B', [JOB_TIME, COST, DECAY])?;
+            Ok(work_entry(i, numbers))
         }
     }
 }

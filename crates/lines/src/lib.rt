@@ -1,26 +1,33 @@
 #![tactic(auto)]
 
-ghost use Rattle.std.specs.Prelude.{◌≡◌, ◌≤◌};
+ghost use Rattle.std.specs.Prelude.{◌≡◌, ◌≤◌, ◌-◌};
 ghost use Rattle.store.specs.Store.{levels_max};
-ghost use Rattle.reading.specs.Rest.{rest_of, read_to, next_by};
-ghost use Rattle.line_kinds.specs.Figures.{fields_for, KindPlace};
+ghost use Rattle.reading.specs.Rest.{rest_of};
+ghost use Rattle.line_kinds.specs.Figures.{KindPlace};
 ghost use Rattle.lines.specs.Lines.{block_from, found_in};
 
-use line_kinds::{Entry, Kind};
+use line_kinds::Kind;
 use reading::{LineFault, Place};
 use store::Store;
 
-// Reads line j, from 0, of the lines of a kind: in one pass where that takes it, else field by field.
-fn read_line(place: Place<'_>, kind: Kind, j: usize) -> Result<(Entry, Place<'_>), LineFault>
-    ensures { read_to result ≡ next_by (fields_for kind j) (rest_of place.entry) }
+// Takes lines of a block of n lines of a kind to the store, each in one pass, up to one that is not taken: how many, and the place
+// behind them. A loop of its own: one that also reads lines field by field takes a quarter more time.
+fn take_lines<'a>(start: Place<'a>, kind: Kind, n: usize, store: &mut Store) -> (usize, Place<'a>)
+    requires { record { few : n ≤ levels_max; place : KindPlace kind } }
+    ensures { block_from kind n 0 (rest_of start.entry) store.old ≡ block_from kind (n - result.0) result.0 (rest_of result.1) store.new }
 {
-    if let Some((entry, n)) = fast_lines::take_line(place.rest, kind, j) {
-        return Ok((entry, place.behind(n)));
+    let mut place = start;
+    for j in 0..n {
+        let Some((entry, size)) = fast_lines::take_line(place.rest, kind, j) else {
+            return (j, place);
+        };
+        line_kinds::put_entry(store, j, entry);
+        place = place.behind(size);
     }
-    place.read(|line| line_kinds::read_line(line, kind, j))
+    (n, place)
 }
 
-// Reads n lines of a kind to the store: the place behind them.
+// Reads n lines of a kind to the store: the place behind them. Those that are taken in one pass first, then the others field by field.
 pub fn read_block<'a>(
     start: Place<'a>,
     kind: Kind,
@@ -30,9 +37,10 @@ pub fn read_block<'a>(
     requires { record { few : n ≤ levels_max; place : KindPlace kind } }
     ensures { found_in result store.new ≡ block_from kind n 0 (rest_of start.entry) store.old }
 {
-    let mut place = start;
-    for j in 0..n {
-        let (entry, next) = read_line(place, kind, j)?;
+    let (taken, behind) = take_lines(start, kind, n, store);
+    let mut place = behind;
+    for j in taken..n {
+        let (entry, next) = place.read(|line| line_kinds::read_line(line, kind, j))?;
         line_kinds::put_entry(store, j, entry);
         place = next;
     }

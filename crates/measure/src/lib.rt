@@ -25,7 +25,7 @@ fn first_above(levels: &[u8], l: u32) -> Option<usize>
     levels.iter().position(|&j| l <= j as u32)
 }
 
-// The margins of a list of levels on a sheet that was read.
+// The margins of a list of levels on a sheet that was read: the head that the reader hands back, and the store that it fills.
 fn margins_of(head: Head, store: &Store, levels: &[u8]) -> Margins
     requires { Measurable (sheet_of head store.now) levels.now }
     ensures { measured_by (Ok result) ≡ measured_as (margins (sheet_of head store.now) levels.now) }

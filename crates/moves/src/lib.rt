@@ -57,7 +57,8 @@ pub fn find_moves(problem: &Problem, i: u32, moves: &mut [Move])
     ensures { let s = sheet_for problem.now in Moves s i (s.levels * s.levels) moves.new }
 {
     let l = problem.frame.head.levels;
-    for u in 0..l * l {
-        moves[u as usize] = move_of(problem, i, u / l, u % l);
+    for (u, m) in moves[..(l * l) as usize].iter_mut().enumerate() {
+        let u = u as u32;
+        *m = move_of(problem, i, u / l, u % l);
     }
 }

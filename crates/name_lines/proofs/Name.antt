@@ -8,6 +8,7 @@ use native.Mathlib.Omega.{arith}
 use lib.Dec.{eqb, leb, ltb}
 use lib.ListN.{length, drop}
 use Rattle.std.specs.Prelude.{Ok, Err, ◌&&◌}
+use Rattle.std.specs.Char.{is_ascii_graphic}
 use Rattle.std.specs.List.{list_all}
 use borrow.Author.Tests.{lt-ltb, le-ltb, ne_eqb, eqb-false, ltb-false}
 use Rattle.text.specs.Text.{all}
@@ -39,7 +40,7 @@ pub name_long : (t : List ℕ) → eqb (length t) 0 ≡ false → name_max < len
 unfolding is_name
 name_long t e h = rw (e, lt-ltb name_max (length t) h) refl
 
-pub name_letters : (t : List ℕ) → eqb (length t) 0 ≡ false → length t ≤ name_max → list_all (λ b. leb 33 b && leb b 126) t ≡ is_name t
+pub name_letters : (t : List ℕ) → eqb (length t) 0 ≡ false → length t ≤ name_max → list_all is_ascii_graphic t ≡ is_name t
 unfolding is_name
 name_letters t e h = rw (e, le-ltb name_max (length t) h) (sym (all_list 33 126 t))
 

@@ -1,6 +1,7 @@
 #![tactic(auto)]
 
-ghost use Rattle.std.specs.Prelude.{◌≡◌, ◌&&◌, nat_le};
+ghost use Rattle.std.specs.Prelude.{◌≡◌};
+ghost use Rattle.std.specs.Char.{is_ascii_graphic};
 ghost use Rattle.std.specs.List.{list_all};
 ghost use Rattle.name_lines.specs.Name.{is_name, name_fault};
 
@@ -11,9 +12,9 @@ pub const NAME_MAX: usize = 16; // document 01: "name (1 to 16 bytes, each 33 to
 
 // Whether each byte is 33 to 126.
 fn are_letters(t: &[u8]) -> bool
-    ensures { result ≡ list_all (λ b. nat_le 33 b && nat_le b 126) t.now }
+    ensures { result ≡ list_all is_ascii_graphic t.now }
 {
-    t.iter().all(|b| b'!' <= *b && *b <= b'~')
+    t.iter().all(|b| b.is_ascii_graphic())
 }
 
 // Whether bytes are a job's name.

@@ -20,12 +20,12 @@ pub fn read_number(t: &[u8]) -> Option<Number<'_>>
     ensures { option_map (λ n. (n.value, n.rest.now)) result ≡ next_number t.now }
 {
     let mut value = 0;
-    let mut digits = 0;
+    let mut digits = 0; // no `enumerate`: the count is needed behind the loop, where its place is gone
     for &b in t {
         if b == TAB {
             break;
         }
-        if b < b'0' || b'9' < b || DIGITS_MAX <= digits {
+        if !b.is_ascii_digit() || DIGITS_MAX <= digits {
             return None;
         }
         value = value * 10 + (b - b'0') as u64;

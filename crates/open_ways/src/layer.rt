@@ -17,7 +17,7 @@ pub struct Layer<'a> {
     pub ghost small: { at + levels * cells ≤ words_max },
 }
 
-// How many ways are open to a span of words, and where it ends.
+// How many ways are open to a span of words, and where it ends. There is no heap: the ways are the first `count` of those lent.
 #[derive(Drop)]
 pub struct Span {
     pub count: usize,
@@ -41,6 +41,7 @@ impl Layer<'_> {
           long : length ways.new ≡ length ways.old;
         } }
     {
+        // Counts the open ways alone, which may be fewer than the levels that the loop goes through.
         let mut count = 0;
         let mut to = end;
         for j in 0..self.levels {

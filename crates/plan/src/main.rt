@@ -8,7 +8,8 @@ use plan_text::TEXT_LEAST;
 use std::io;
 use std::io::{Read, Stdin};
 
-// Reads once, to place n of the buffer; 0 bytes are the input's end.
+// Reads once, to place n of the buffer; 0 bytes are the input's end. Standard input fills what is left of a buffer, as there is no
+// heap: so buffer and place.
 fn read_more(stdin: &mut Stdin, sheet: &mut [u8], n: usize) -> io::Result<usize>
     requires { n ≤ length sheet.old }
     ensures { More sheet.old sheet.new n result }
@@ -17,7 +18,7 @@ fn read_more(stdin: &mut Stdin, sheet: &mut [u8], n: usize) -> io::Result<usize>
 }
 
 // Reads until the input ends or the buffer is full: a pipe hands its bytes over in pieces, as long as it likes, so that no range has
-// the steps of the loop.
+// the steps of the loop. Not as `read_input` of `cases`: a failed read is told. Of the library, `read_to_end` wants a heap.
 fn read_sheet(stdin: &mut Stdin, sheet: &mut [u8]) -> io::Result<usize>
     ensures { Within 0 result sheet.new }
 {

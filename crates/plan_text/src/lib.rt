@@ -29,7 +29,7 @@ fn put_job(t: &[u8], writer: &mut Writer, run: Run)
     plan_lines::put_job_line(writer, name, level, run.time, run.energy, run.temperature);
 }
 
-// Writes the Q lines of a list of levels.
+// Writes the Q lines of a list of levels. Head and store are two: the reader hands the one back and fills the other.
 fn put_jobs(s: &[u8], head: Head, store: &Store, levels: &[u8], writer: &mut Writer)
     requires { record { handed : Handed s.now head store.now levels.now; room : Room writer.old (head.jobs * job_line_max) } }
     ensures wrote { Writes writer.old writer.new (job_text_from (name_of s.now) (sheet_of head store.now) 0 (start (sheet_of head store.now)) (take head.jobs levels.now)) }

@@ -36,7 +36,8 @@ impl<'a> Place<'a> {
         }
     }
 
-    // What the next line says by what reads a line, and the place behind it.
+    // What the next line says by what reads a line, and the place behind it. A `match`: `map_err` and `?` would hand the place to a closure
+    // for its line alone.
     pub fn read<T, F: FnOnce(Line<'a>) -> Result<T, Fault>>(
         self,
         f: F,

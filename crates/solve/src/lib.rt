@@ -18,6 +18,7 @@ use store::Store;
 use table::{Frame, Problem};
 
 // Fills the table and, where there is a plan for the jobs left from `start` on, writes its levels: whether there is one.
+// A bool and no `Option`: the plan stands in the lent part, so that there is no value to hand back.
 fn find_plan(problem: &Problem, start: Run, table: &mut [u32], part: &mut [u8]) -> bool
     requires { Ready (sheet_for problem.now) (state_of start) (length table.old) (length part.old) }
     ensures { let s = sheet_for problem.now in Finds s (s.jobs - start.done) (state_of start) table.old table.new part.old part.new result }
@@ -36,6 +37,7 @@ fn find_plan(problem: &Problem, start: Run, table: &mut [u32], part: &mut [u8]) 
 }
 
 // Plans the jobs left from `start` on, where what is lent is enough: levels to `part`, least times to `table`.
+// C lends the two apart, told by their types: a struct of two `&mut` would be made at one call and taken apart at the next.
 pub fn solve(
     f: Frame,
     store: &Store,

@@ -23,6 +23,7 @@ pub struct Figures<'a> {
 
 impl<'a> Figures<'a> {
     // Works out the steady-state temperatures once, for all jobs.
+    // No `map` of the powers: its proof would follow call by call that the cast fits, where the bound here is by level.
     pub fn of(store: &'a Store, resistance: u32) -> Figures<'a>
         requires { (j : ℕ) → j < levels_max → steady_state (power_at store.now j) resistance ≤ temperature_max }
         ensures store { result.store.now ≡ store.now }

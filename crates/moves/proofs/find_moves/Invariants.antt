@@ -4,4 +4,4 @@ use Rattle.moves.specs.Moves.{Moves}
 use Rattle.moves.proofs.find_moves.Given as goal
 
 abbrev pub invariant-loop-u : goal.invariant-loop-u
-invariant-loop-u l = Moves (sheet_for l.problem) l.i l.u l.moves
+invariant-loop-u l = Moves (sheet_for l.problem) l.i l.u l.m-items

@@ -1,0 +1,32 @@
+-- `take_lines` takes what the definition says: a line that `take_line` takes is the next line of its kind.
+use mathlib.Core.Path.{◌≡◌, sym, ◌∙◌}
+use native.Mathlib.Omega.{arith}
+use Rattle.text.proofs.Text.{ahead_lt}
+use Rattle.reading.proofs.Rest.{next_taken}
+use Rattle.line_kinds.proofs.Figures.{entry_place}
+use Rattle.fast_lines.proofs.Entries.{entry_at}
+use Rattle.lines.proofs.Lines.{block_none, block_on}
+use Rattle.lines.proofs.take_lines.Goals as goal
+
+pub loop-j-init : goal.loop-j-init
+loop-j-init c = block_none _ _ _ _
+
+pub returns-in_default : goal.returns-in_default
+returns-in_default c = c.loop-j.invariant
+
+pub put_entry-requires : goal.put_entry-requires
+put_entry-requires c =
+    let z = entry_at _ _ _ c.in-Some.ensures in (omega arith, entry_place _ _ _ _ z.1 c.requires.place)
+
+pub behind-place-requires : goal.behind-place-requires
+behind-place-requires c =
+    let z = entry_at _ _ _ c.in-Some.ensures in (omega (arith, z.2), omega (arith, z.2, ahead_lt 10 _ z.0))
+
+pub loop-j-preserved : goal.loop-j-preserved
+loop-j-preserved c =
+    let z = entry_at _ _ _ c.in-Some.ensures in
+    rw (c.behind-place.ensures, c.put_entry.ensures)
+    (c.loop-j.invariant ∙ block_on _ _ _ _ _ c.loop-j-test.true _ _ (sym (next_taken _ _ _ _ z.0 z.1 z.2)))
+
+pub returns : goal.returns
+returns c = let all : c.loop-j.j ≡ c.args.n = omega arith in rw all at c.loop-j.invariant
