@@ -12,7 +12,7 @@ ghost use Rattle.afresh.specs.Read.{read_of};
 use refusal::Refusal;
 use reply::Totals;
 use run::Run;
-use store::Store;
+use store::{ReadSheet, Store};
 
 // What is read after a job: "jobs done, present level, elapsed time, energy spent and temperature".
 #[derive(Clone, Copy)]
@@ -51,6 +51,10 @@ pub fn plan_afresh(
     ensures afresh_demands { AfreshDemands s.now (read_of reading) (length table.old) (length part.old) part.new (reply_by result) }
 {
     let mut store = Store::clear();
-    let read = sheet::read(s, &mut store);
-    planner::plan_left(read, &store, reading.into(), table, part)
+    let head = sheet::read(s, &mut store)?;
+    let sheet = ReadSheet {
+        head,
+        store: &store,
+    };
+    planner::plan_left(sheet, reading.into(), table, part)
 }

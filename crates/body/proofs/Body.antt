@@ -3,7 +3,8 @@
 use mathlib.Core.Path.{◌≡◌, refl, ap, sym, ◌∙◌}
 use Prim.Native.Nat.{ℕ, zero, suc, ◌+◌, ◌*◌, ◌-◌, ◌≤◌, ◌<◌}
 use native.Mathlib.Omega.{arith}
-use Rattle.std.specs.Prelude.{Ok, Err}
+use Rattle.std.specs.Prelude.{Result, Ok, Err}
+use Rattle.std.specs.Result.{result_map_both}
 use Rattle.text.specs.Text.{until}
 use Rattle.fields.proofs.After.{after_cases}
 use Rattle.reading.specs.declared.LineFault.{LineFault}
@@ -16,7 +17,7 @@ use Rattle.name_lines.proofs.Name.{name_field}
 use Rattle.line_kinds.specs.declared.Kind.TheVariants.{Level, Change, Work}
 use Rattle.lines.specs.Lines.{Found, stop, block_from}
 use Rattle.lines.proofs.Places.{Placed, placed_end, placed_stop, block_placed}
-use Rattle.body.specs.Body.{job_lines, head_lines, lines_before, end_line, onward, changes_from, jobs_from, body_from}
+use Rattle.body.specs.Body.{job_lines, head_lines, lines_before, end_line, onward, changes_from, name_from, jobs_from, body_from}
 
 -- ---- going on or stopping
 
@@ -58,15 +59,25 @@ module _ {from : Parts} {n i : ℕ} {start rest : Rest} {old store : Store} (g :
 
 -- ---- a job, by its J line
 
-module _ (l n i : ℕ) (rest : Rest) (store : Store) where
-  pub job_unnamed : {e : LineFault} → Err e ≡ next_by name_fault rest → stop store e ≡ jobs_from l (suc n) i rest store
-  unfolding jobs_from
-  job_unnamed q = rw (← q) refl
+-- What a line says, by what is left behind it.
+module _ {A : Type 0} where
+  unread : (name : Result (A × Rest) LineFault) (e : LineFault) → Err e ≡ result_map_both (λ x. x.1) (λ f. f) name → name ≡ Err e
+  unread (Ok x) e q = absurd cc
+  unread (Err f) e q = let p : f ≡ e = cc in rw p refl
 
-  pub job_named : {r : Rest} → Ok (tt, r) ≡ next_by name_fault rest →
+  read_on : (name : Result (A × Rest) LineFault) (r : Rest) → Ok r ≡ result_map_both (λ x. x.1) (λ f. f) name → (a : A) × (name ≡ Ok (a, r))
+  read_on (Ok (a, s)) r q = let p : s ≡ r = cc in (a, rw p refl)
+  read_on (Err f) r q = absurd cc
+
+module _ (l n i : ℕ) (rest : Rest) (store : Store) where
+  pub job_unnamed : {e : LineFault} → Err e ≡ name_from rest → stop store e ≡ jobs_from l (suc n) i rest store
+  unfolding name_from jobs_from
+  job_unnamed {e} q = rw (unread (next_by name_fault rest) e q) refl
+
+  pub job_named : {r : Rest} → Ok r ≡ name_from rest →
       jobs_from l (suc n) i rest store ≡ onward (block_from (Work i) l 0 r store) (jobs_from l n (i + 1))
-  unfolding jobs_from
-  job_named q = rw (← q) refl
+  unfolding name_from jobs_from
+  job_named {r} q = rw (read_on (next_by name_fault rest) r q).1 refl
 
 -- ---- all of them, one after the other
 

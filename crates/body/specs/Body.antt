@@ -1,8 +1,10 @@
 -- The lines of a sheet after its H line, in order (document 01, 'The sheet'): "l lines L", "l × l lines S .. by level left and
 -- then level entered", "For each job: J, name .. then l lines B".
 -- Assumes nothing.
-use Rattle.std.specs.Prelude.{ℕ, zero, suc, ◌+◌, ◌*◌, Ok}
+use Rattle.std.specs.Prelude.{ℕ, zero, suc, ◌+◌, ◌*◌, Result, Ok}
+use Rattle.std.specs.Result.{result_map_both}
 use Rattle.fields.specs.Fields.{after}
+use Rattle.reading.specs.declared.LineFault.{LineFault}
 use Rattle.reading.specs.Rest.{Rest, next_by}
 use Rattle.name_lines.specs.Name.{name_fault}
 use Rattle.store.specs.declared.Store.{Store}
@@ -35,6 +37,10 @@ onward f go = after f.read (stop f.store) (λ r. go r f.store)
 unfoldable pub changes_from : ℕ → ℕ → ℕ → Rest → Store → Found
 changes_from l zero p r st = record { read = Ok r; store = st }
 changes_from l (suc n) p r st = onward (block_from (Change p) l 0 r st) (changes_from l n (p + 1))
+
+-- "J, name": what is left behind the next line, or its fault.
+unfoldable pub name_from : Rest → Result Rest LineFault
+name_from r = result_map_both (λ name. name.1) (λ f. f) (next_by name_fault r)
 
 -- The lines of the next n jobs, from job i on.
 unfoldable pub jobs_from : ℕ → ℕ → ℕ → Rest → Store → Found

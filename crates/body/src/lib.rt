@@ -2,10 +2,9 @@
 
 // The lines of a sheet after its H line: changes of level, jobs with their names, and all of them in order.
 ghost use Rattle.std.specs.Prelude.{◌≡◌};
-ghost use Rattle.name_lines.specs.Name.{name_fault};
-ghost use Rattle.reading.specs.Rest.{rest_of, read_to, next_by};
+ghost use Rattle.reading.specs.Rest.{rest_of, rest_read};
 ghost use Rattle.lines.specs.Lines.{found_in};
-ghost use Rattle.body.specs.Body.{changes_from, jobs_from, body_from};
+ghost use Rattle.body.specs.Body.{changes_from, name_from, jobs_from, body_from};
 
 mod counts;
 
@@ -32,14 +31,15 @@ fn read_changes<'a>(
     Ok(place)
 }
 
-// Reads a line J: in one pass where that takes it, else field by field.
-fn read_name(place: Place<'_>) -> Result<((), Place<'_>), LineFault>
-    ensures { read_to result ≡ next_by name_fault (rest_of place.entry) }
+// Reads a line J, in one pass where that takes it, else field by field: the place behind it.
+fn read_name(place: Place<'_>) -> Result<Place<'_>, LineFault>
+    ensures { rest_read result ≡ name_from (rest_of place.entry) }
 {
     if let Some(n) = fast_name_lines::take_name(place.rest) {
-        return Ok(((), place.behind(n)));
+        return Ok(place.behind(n));
     }
-    place.read(name_lines::check_name)
+    let ((), behind) = place.read(name_lines::check_name)?;
+    Ok(behind)
 }
 
 // Reads the lines of the jobs: the place behind them.
@@ -52,7 +52,7 @@ fn read_jobs<'a>(
 {
     let mut place = start;
     for i in 0..counts.jobs {
-        let ((), works) = read_name(place)?;
+        let works = read_name(place)?;
         place = lines::read_block(works, Kind::Work(i), counts.levels, store)?;
     }
     Ok(place)

@@ -184,6 +184,7 @@ fn main(rt: HostRuntime) {
     let mut input = [0u8; 262144];
     let n = read_input(&mut rt.stdin(), &mut input);
     let mut rest = &input[..n];
+    // Each case is taken off what is left, so that nothing is counted.
     while let Some(case) = take_case(&mut rest) {
         print_case(&rt, case);
     }

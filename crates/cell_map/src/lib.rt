@@ -7,13 +7,10 @@ mod rows;
 
 pub use rows::Rows;
 
-// How many cells, from the first, the map leads to a cell of a row: the map has a cell for each cell of a row.
+// How many cells, from the first, the map leads to a cell of a row: the map has a cell for each cell of a row, and rises.
 pub fn count_leading(map: &[u32]) -> usize
     requires { Rising map.now 0 (length map.now) }
     ensures { Leading map.now 0 (length map.now) result }
 {
-    let width = map.len();
-    map.iter()
-        .position(|q| width <= *q as usize)
-        .unwrap_or(width)
+    map.partition_point(|q| (*q as usize) < map.len())
 }

@@ -1,7 +1,7 @@
 #![tactic(auto)]
 
 // The checks that follow the sheet's own: 7, 8 and 9 of what is lent, and 13, 14 and 5 of what is read.
-ghost use Rattle.std.specs.Prelude.{◌≡◌, List, ℕ, ◌-◌};
+ghost use Rattle.std.specs.Prelude.{◌≡◌, List, ℕ};
 ghost use Rattle.std.specs.Result.{result_err};
 ghost use Rattle.store.specs.declared.Store.{Store};
 ghost use Rattle.store.specs.Figures.{sheet_of};
@@ -12,13 +12,6 @@ use refusal::Refusal;
 use run::Run;
 use store::{Head, LIMIT_MAX, TEMPERATURE_MAX};
 use table::WORDS_MAX;
-
-// How many jobs are still to do where `done` of m are done: none where it is m or more.
-pub fn jobs_left(jobs: u32, done: u32) -> usize
-    ensures { result ≡ jobs - done }
-{
-    jobs.saturating_sub(done) as usize
-}
 
 // Refuses memory that is lacking where n levels are to be written: 7, 8 or 9.
 pub fn check_memory(need: usize, n: usize, words: usize, bytes: usize) -> Result<(), Refusal>

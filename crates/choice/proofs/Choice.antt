@@ -8,6 +8,7 @@ use native.Mathlib.Numerals.{add-one}
 use native.Mathlib.Omega.{arith}
 use native.Mathlib.Decide.{dec_le}
 use borrow.Author.Tests.{le-leb, lt-leb}
+use Rattle.std.proofs.lemmas.Bool.Decides.{nat_tests}
 use Rattle.frame.specs.Sheet.{Sheet, Ranges, job_most}
 use Rattle.frame.specs.Run.{State, change, job, step}
 use Rattle.frame.specs.Plan.{least_of, first_within, next, cost, via, least}
@@ -15,7 +16,7 @@ use Rattle.frame.specs.Demands.{infeasible}
 use Rattle.frame.specs.Table.{need}
 use Rattle.run.specs.Run.{state_of}
 use Rattle.run.specs.declared.Run.{Run}
-use Rattle.table.specs.declared.Frame.{Frame}
+use Rattle.table.specs.declared.axes.Frame.{Frame}
 use Rattle.table.specs.Table.{Axes, AtCell, Holds}
 use Rattle.table.proofs.Ways.{next_level, next_done, next_peak, next_at_cell, cost_energy, cost_temperature, cost_within}
 use Rattle.lookup.specs.Lookup.{rest_by, rest_in, Looks}
@@ -55,6 +56,11 @@ module _ (s : Sheet) where
             ]
         | no u ↦ cost_energy s b x (omega arith) ∙ sym (cost_energy s b y (omega arith))
       ]
+
+-- No way takes more than 4,294,967,295 says.
+pub via_most : (s : Sheet) (rest : State → ℕ) (a : State) (j : ℕ) → via s rest a j ≤ infeasible
+unfolding via cost
+via_most s rest a j = grind (arith, nat_tests)
 
 module _ {s : Sheet} (ok : Ranges s) {t : List ℕ} (a : State) (h : Holds s t (suc a.done)) where
   -- A way by the table is the way by the least time of the jobs after it.

@@ -15,7 +15,8 @@ use run::Run;
 use table::Problem;
 use word::NO_WAY;
 
-// "4,294,967,295 where no way exists": the table's words hold this number as they hold times, so it is no `Option` here.
+// "4,294,967,295 where no way exists": the table's words hold this number as they hold times, so it is no `Option` here. It is the
+// greatest of what is compared, so that the least is found without a test for none.
 const INFEASIBLE: u64 = NO_WAY as u64;
 
 // The time from a cell on where its next job takes level j, "4,294,967,295 where no way exists".
@@ -41,14 +42,7 @@ pub fn choose(problem: &Problem, table: &[u32], a: Run) -> u32
     requires { let s = sheet_for problem.now in record { room : need s ≤ length table.now; at : AtCell s (state_of a) } }
     ensures { let s = sheet_for problem.now in result ≡ level_by s table.now (state_of a) }
 {
-    let mut least = INFEASIBLE;
-    let mut first = 0;
-    for j in 0..problem.frame.head.levels {
-        let t = way(problem, table, a, j);
-        if t < least {
-            least = t;
-            first = j;
-        }
-    }
-    first
+    (0..problem.frame.head.levels)
+        .min_by_key(|j| way(problem, table, a, *j))
+        .unwrap_or(0)
 }

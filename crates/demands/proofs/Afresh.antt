@@ -18,7 +18,7 @@ use Rattle.checks.specs.Checks.{fault_of}
 use Rattle.checks.proofs.Checks.{fault_cases}
 use Rattle.reply.specs.Reply.{Reply, refused_reply}
 use Rattle.reply.specs.Answer.{Answer, found_from, Answers}
-use Rattle.demands.specs.Order.{unless, afresh_for, afresh_to, afresh_of}
+use Rattle.demands.specs.Order.{unless, afresh_for, afresh_of}
 use Rattle.demands.specs.Demands.{Enough, Demand3}
 use Rattle.demands.specs.Afresh.{Passed, LeftDemands, AfreshDemands}
 use Rattle.demands.proofs.Demands.{unlooked, on_found, Lacks, memory_enough, lack_split, by_reading}
@@ -179,7 +179,7 @@ module _ (s : Sheet) (ok : Ranges s) (a : State) (new : a.peak ≡ 0) (n : ℕ) 
 
 pub afresh_hold : (sheet : List ℕ) (a : State) → a.peak ≡ 0 → (words words' bytes bytes' : List ℕ) (r : Reply) →
     Answers (afresh_of sheet a (length words) (length bytes)) words words' bytes bytes' r → AfreshDemands sheet a (length words) (length bytes) bytes' r
-unfolding afresh_to afresh_of
+unfolding afresh_of
 afresh_hold sheet a new words words' bytes bytes' r h =
     let d = by_reading sheet (λ s. afresh_for s a (length words) (length bytes)) h in
     record {

@@ -26,7 +26,7 @@ use Rattle.reply.specs.Reply.{Reply, refused_reply, planned_as}
 use Rattle.reply.specs.Answer.{Answer, refused, found, Answers}
 use Rattle.std.specs.Prelude.{Option, Some, None}
 use Rattle.reply.proofs.Peak.{peak_between}
-use Rattle.demands.specs.Order.{frame_found, unless, answer_for, answer_by, answer_to, answer_of}
+use Rattle.demands.specs.Order.{frame_found, unless, answer_for, answer_by, answer_of}
 use Rattle.demands.specs.Demands.{Enough, Memory, Demand3, FrameDemands, Demands}
 
 module _ {s : Sheet} {k : Limits} {n : ℕ} {a : State} {passed : Type 0} {part : List ℕ} {r : Reply} where
@@ -216,7 +216,7 @@ by_reading sheet answer {words} {words'} {bytes} {bytes'} {r} a = (
 
 pub demands_hold : (sheet words words' bytes bytes' : List ℕ) (r : Reply) →
     Answers (answer_of sheet (length words) (length bytes)) words words' bytes bytes' r → Demands sheet (length words) (length bytes) bytes' r
-unfolding answer_to answer_of
+unfolding answer_of
 demands_hold sheet words words' bytes bytes' r a =
     let d = by_reading sheet (λ s. answer_for s (length words) (length bytes)) a in
     record {

@@ -23,7 +23,7 @@ use Rattle.sheet.specs.Reading.{reading_of, sheet_in}
 use Rattle.sheet.proofs.Ranges.{read_ranges}
 use Rattle.reply.specs.Reply.{Reply}
 use Rattle.reply.specs.Answer.{Answer, refused, found, reply_of, PeakOf, table_after, part_after, Answers}
-use Rattle.demands.specs.Order.{frame_found, unless, answer_for, answer_by, answer_to, answer_of}
+use Rattle.demands.specs.Order.{frame_found, unless, answer_for, answer_by, answer_of}
 use Rattle.demands.specs.Demands.{Demands}
 use Rattle.demands.proofs.Demands.{demands_hold}
 
@@ -37,7 +37,7 @@ module _ (P : Answer → Type 0) (seven : P (refused TableTooLarge)) (eight : P 
       ((f : Refusal) → (reading_of t).refusal ≡ Some f → P (refused f)) →
       ((reading_of t).refusal ≡ None → bytes < (sheet_in t).jobs → P (refused PartShort)) →
       ((reading_of t).refusal ≡ None → P (frame_found (sheet_in t))) → P (answer_of t words bytes)
-  unfolding answer_by answer_to answer_of
+  unfolding answer_by answer_of
   answer_ways t words bytes a nine h = accepted_ways P (reading_of t).refusal refused _ a (λ e. frame_ways (sheet_in t) words bytes (nine e) (h e))
 
 -- ---- the answer's own reply, with the peak of the plan's run

@@ -36,18 +36,10 @@ afresh_for s a words bytes = unless (lack_of (need s) (jobs_left s a) words byte
 unfoldable pub answer_by : SheetRead → (Sheet → Answer) → Answer
 answer_by r answer = unless r.refusal (answer (sheet_of r.head r.store))
 
--- The answer to a sheet that was read, with a table of so many words and a part of so many bytes.
-unfoldable pub answer_to : SheetRead → ℕ → ℕ → Answer
-answer_to r words bytes = answer_by r (λ s. answer_for s words bytes)
-
--- The answer to a sheet.
+-- The answer to a sheet, with a table of so many words and a part of so many bytes.
 unfoldable pub answer_of : List ℕ → ℕ → ℕ → Answer
-answer_of sheet words bytes = answer_to (reading_of sheet) words bytes
+answer_of sheet words bytes = answer_by (reading_of sheet) (λ s. answer_for s words bytes)
 
 -- The same, planned afresh from a reading.
-unfoldable pub afresh_to : SheetRead → State → ℕ → ℕ → Answer
-afresh_to r a words bytes = answer_by r (λ s. afresh_for s a words bytes)
-
--- The answer to a sheet, planned afresh from a reading.
 unfoldable pub afresh_of : List ℕ → State → ℕ → ℕ → Answer
-afresh_of sheet a words bytes = afresh_to (reading_of sheet) a words bytes
+afresh_of sheet a words bytes = answer_by (reading_of sheet) (λ s. afresh_for s a words bytes)

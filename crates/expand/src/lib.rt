@@ -2,7 +2,7 @@
 
 ghost use Rattle.std.specs.Prelude.{IfSome, ℕ, ◌+◌, ◌*◌, ◌-◌, ◌≤◌, ◌<◌, length};
 ghost use Rattle.spans.specs.Spans.{Spans};
-ghost use Rattle.cell_map.specs.Rows.{gathered, finished, Rising, Leading, Behind};
+ghost use Rattle.cell_map.specs.Rows.{Rising, Leading, Behind};
 ghost use Rattle.expand.specs.Laid.{lead, laid};
 
 use cell_map::{Rows, count_leading};
@@ -15,7 +15,8 @@ use word::FAR;
 const SHORT_ROW: usize = 16;
 
 // Writes the first n cells of row a, which lead to a cell: from the rows of the next job, or 0 after the last job. What is read and what
-// is written lie in one table, so that a row is told by its place; `next` is the place of the next job's rows, and of no `Rows` of its own.
+// is written lie in one table, so that a row is told by its place. `next` is the place of the next job's rows, and no field of `Rows`:
+// after the last job there is none, and what gathers would have to ask again.
 fn lead_row(table: &mut [u32], rows: Rows, a: usize, n: usize, next: Option<usize>)
     requires { record {
       row : a < rows.count;
@@ -49,22 +50,17 @@ fn write_rows(table: &mut [u32], rows: Rows, next: Option<usize>)
     }
 }
 
-// Writes what follows a job that is not the last, by the map in the last row.
-pub fn gather_rows(table: &mut [u32], rows: Rows, next: usize)
-    requires { record { places : Behind table.old rows next; rising : Rising table.old (rows.at + (rows.count - 1) * rows.width) rows.width } }
-    ensures { Spans table.old table.new rows.at (rows.count * rows.width) (gathered table.old (rows.at + (rows.count - 1) * rows.width) next rows.width) }
+// Writes what follows a job, by the map in the last row and the next job's rows, if a job follows.
+pub fn expand_rows(table: &mut [u32], rows: Rows, next: Option<usize>)
+    requires { record {
+      room : rows.at + rows.count * rows.width ≤ length table.old;
+      rising : Rising table.old (rows.at + (rows.count - 1) * rows.width) rows.width;
+      next-behind : IfSome next (λ p. Behind table.old rows p);
+    } }
+    ensures { Spans table.old table.new rows.at (rows.count * rows.width) (laid table.old (rows.at + (rows.count - 1) * rows.width) next rows.width) }
 {
-    if rows.width <= SHORT_ROW {
-        gather_short(table, rows, next);
-    } else {
-        write_rows(table, rows, Some(next));
+    match next {
+        Some(next) if rows.width <= SHORT_ROW => gather_short(table, rows, next),
+        _ => write_rows(table, rows, next),
     }
-}
-
-// The same for the last job, which nothing follows.
-pub fn finish_rows(table: &mut [u32], rows: Rows)
-    requires { record { room : rows.at + rows.count * rows.width ≤ length table.old; rising : Rising table.old (rows.at + (rows.count - 1) * rows.width) rows.width } }
-    ensures { Spans table.old table.new rows.at (rows.count * rows.width) (finished table.old (rows.at + (rows.count - 1) * rows.width) rows.width) }
-{
-    write_rows(table, rows, None);
 }

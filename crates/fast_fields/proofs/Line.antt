@@ -2,28 +2,30 @@
 -- steps.
 -- Assumes nothing.
 use mathlib.Core.Path.{◌≡◌, refl, ap, sym, ◌∙◌}
-use mathlib.Core.Bool.{Bool, true, false, cond}
+use mathlib.Core.Bool.{Bool, true, false, cond, ◌&&◌}
 use mathlib.Core.List.{List, [], ◌∷◌}
 use Prim.Native.Nat.{ℕ, zero, suc, ◌+◌, ◌≤◌, ◌<◌, ◌^◌}
 use native.Mathlib.Decide.{ℕ_discrete}
 use native.Mathlib.Omega.{arith}
-use lib.Dec.{eqb, leb, ltb}
+use lib.Dec.{eqb, leb}
 use lib.ListN.{length, get_or, drop}
-use borrow.Author.Tests.{le-leb, leb-true, le-ltb, ltb-false, eq-eqb, ne_eqb, eqb-true}
+use borrow.Author.Tests.{le-leb, leb-true, eq-eqb, ne_eqb, eqb-true}
 use Rattle.std.specs.Prelude.{Option, Some, None, Result, Ok, Err}
+use Rattle.std.specs.List.{starts_with}
 use Rattle.std.specs.Option.{option_map, option_and_then}
 use Rattle.text.specs.Text.{before, until, ahead, count, all}
 use Rattle.text.proofs.Text.{before_byte, until_byte, until_hit, until_pass, count_ahead, drop_here, length_until, lt_ahead, all_none, all_on}
 use Rattle.text.proofs.Tests.{clash, cond_true}
 use Rattle.numbers.specs.Number.{is_number, value_from}
-use Rattle.fields.specs.Fields.{Fields, after, opens, numbers_from, fields_of}
+use Rattle.fields.specs.Fields.{Fields, after, in_range, opens, numbers_from, fields_of}
 use Rattle.fields.specs.declared.Fault.{Fault}
 use Rattle.fields.specs.declared.Fault.TheVariants.{Shape}
 use Rattle.fields.specs.declared.Range.{Range}
-use Rattle.fields.proofs.Fields.{opens_before, opens_letter, opens_tabs}
+use Rattle.fields.proofs.Fields.{opens_before, opens_letter, opens_tabs, in_range_ends}
 use Rattle.fast_fields.specs.Take.{taken, starts, line_taken, ShortRanges}
 use Rattle.fast_fields.proofs.Onward.{all_count, Onward, onward, first_field, one_field}
-use Rattle.fast_fields.proofs.Number.{number_all, number_few, Short, NumberAt, taken_so, taken_number}
+use Rattle.numbers.proofs.Digits.{number_all}
+use Rattle.fast_fields.proofs.Number.{number_few, Short, NumberAt, taken_so, taken_number}
 
 -- ---- the letter
 
@@ -32,6 +34,25 @@ pub record Starts (letter room : ℕ) (t : List ℕ) : Type 0 where
   pub within : room ≤ length t
   pub first : get_or t 0 0 ≡ letter
   pub second : get_or t 1 0 ≡ 9
+
+eqb_turn : (a b : ℕ) → eqb a b ≡ eqb b a
+eqb_turn a b =
+    elim (ℕ_discrete a b) [
+      | yes e ↦ eq-eqb a b e ∙ sym (eq-eqb b a (sym e))
+      | no n ↦ ne_eqb a b n ∙ sym (ne_eqb b a (λ e. n (sym e)))
+    ]
+
+-- The library's test of the first two bytes.
+pub starts_test : (letter room : ℕ) (t : List ℕ) → 2 ≤ room → room ≤ length t → starts_with eqb t (letter ∷ 9 ∷ []) ≡ starts letter room t
+unfolding starts
+starts_test letter room [] two h = absurd (omega arith)
+starts_test letter room (a ∷ []) two h = absurd (omega arith)
+starts_test letter room (a ∷ b ∷ t) two h = rw (le-leb _ _ h, eqb_turn a letter, eqb_turn b 9) (go (eqb letter a) (eqb 9 b))
+  where
+    go : (x y : Bool) → (x && (y && true)) ≡ cond x y false
+    go true true = refl
+    go true false = refl
+    go false y = refl
 
 module _ (letter room : ℕ) (t : List ℕ) where
   pub starts_is : starts letter room t ≡ true → Starts letter room t
@@ -140,20 +161,19 @@ module _ (range : Range) (ranges : List Range) (j : ℕ) (t : List ℕ) where
       says : Result Fields Fault → Taken
       says r = after r (λ f. None) (λ n. Some (n.values, before 10 t + 1))
 
-      go : (a b c : Bool) → is_number (until 9 line) ≡ a → ltb v range.least ≡ b → ltb range.most v ≡ c →
+      go : (a b : Bool) → is_number (until 9 line) ≡ a → in_range range v ≡ b →
           (ahead (stop_at (length ranges)) t ≡ true) × (until (stop_at (length ranges)) t ≡ until 9 line) → (r : Result Fields Fault) (f g : Fault) →
-          says (cond a (cond b (Err f) (cond c (Err f) r)) (Err g)) ≡ None
-      go true false false a b c y r f g =
-          let m : v ≤ range.most = ltb-false _ _ c in
-          let s : Short range (until 9 line) = record { form = a; few = number_few 8 (omega arith) _ a (omega arith); low = ltb-false _ _ b; high = m } in
+          says (cond a (cond b r (Err f)) (Err g)) ≡ None
+      go true true a b y r f g =
+          let m = in_range_ends range v b in
+          let s : Short range (until 9 line) = record { form = a; few = number_few 8 (omega arith) _ a (omega (arith, m.1)); within = b } in
           absurd (none_some (taken_so _ range t y.0 (rw y.1 s)) e)
-      go true false true a b c y r f g = refl
-      go true true c a b d y r f g = refl
-      go false b c a d k y r f g = refl
+      go true false a b y r f g = refl
+      go false b a d y r f g = refl
 
       lines : (a b : Bool) → ahead 10 t ≡ a → eqb (count 9 line) (length ranges) ≡ b → cond a (cond b (says (numbers_from (range ∷ ranges) j line)) None) None ≡ None
       lines true true a b =
-          go (is_number (until 9 line)) (ltb v range.least) (ltb range.most v) refl refl refl (first_stop (length ranges) t a (eqb-true _ _ b)) _ _ _
+          go (is_number (until 9 line)) (in_range range v) refl refl (first_stop (length ranges) t a (eqb-true _ _ b)) _ _ _
       lines true false a b = refl
       lines false b a c = refl
 
@@ -164,7 +184,7 @@ module _ (range : Range) (j : ℕ) (t : List ℕ) {v k : ℕ} where
   rest_last z =
       let f = z.short in
       let c = all_count 48 57 (omega arith) _ (number_all _ f.form) in
-      rw (z.stops, c, one_field _ c, f.form, le-ltb _ _ f.low, le-ltb _ _ f.high, ← z.value, ← z.size) refl
+      rw (z.stops, c, one_field _ c, f.form, f.within, ← z.value, ← z.size) refl
 
   -- One number more.
   rest_more : (next : Range) (ranges : List Range) → NumberAt 9 range t v k →
@@ -174,7 +194,7 @@ module _ (range : Range) (j : ℕ) (t : List ℕ) {v k : ℕ} where
       let f = z.short in
       let u = drop (k + 1) t in
       let o = onward 48 57 (omega arith) t (k + 1) (number_all _ f.form) z.stops (omega (arith, z.size)) in
-      rw (o.ends, o.tabs, eqb_suc (count 9 (until 10 u)) (length ranges), o.field, f.form, le-ltb _ _ f.low, le-ltb _ _ f.high, o.rest, ← z.value)
+      rw (o.ends, o.tabs, eqb_suc (count 9 (until 10 u)) (length ranges), o.field, f.form, f.within, o.rest, ← z.value)
       (go (ahead 10 u) (eqb (count 9 (until 10 u)) (length ranges)) (numbers_from (next ∷ ranges) (j + 1) (until 10 u)) _ _ (omega (arith, o.end)))
     where
       go : (a b : Bool) (r : Result Fields Fault) (m n : ℕ) → m ≡ k + 1 + n →

@@ -3,22 +3,13 @@
 use mathlib.Core.Path.{◌≡◌, ap, sym, ◌∙◌}
 use mathlib.Core.Bool.{true}
 use mathlib.Core.List.{List, [], ◌∷◌}
-use Prim.Native.Nat.{ℕ, suc, ◌+◌, ◌≤◌, ◌<◌}
+use Prim.Native.Nat.{ℕ, suc, ◌+◌, ◌<◌}
 use native.Mathlib.Decide.{ℕ_discrete}
 use native.Mathlib.Omega.{arith}
-use lib.Dec.{leb}
 use lib.ListN.{length, drop, length-drop}
-use borrow.Author.Tests.{leb-true}
 use Rattle.text.specs.Text.{before, until, beyond, ahead, count, all}
-use Rattle.text.proofs.Text.{before_none, before_hit, before_pass, until_none, until_hit, until_pass, beyond_hit, beyond_pass, count_none, count_hit, count_pass, ahead_lt}
-use Rattle.text.proofs.Tests.{cond_true, ltb_same}
-
--- The first byte of a range, and the others.
-pub all_first : (lo hi c : ℕ) (t : List ℕ) → all lo hi (c ∷ t) ≡ true → (lo ≤ c) × (all lo hi t ≡ true)
-unfolding all
-all_first lo hi c t a =
-    let k = cond_true (leb lo c) _ a in
-    (leb-true _ _ k.0, (cond_true (leb c hi) _ k.1).1)
+use Rattle.text.proofs.Text.{before_none, before_hit, before_pass, until_none, until_hit, until_pass, beyond_hit, beyond_pass, count_none, count_hit, count_pass, ahead_lt, all_first}
+use Rattle.text.proofs.Tests.{ltb_same}
 
 -- The next line of the text t goes on behind its first field, which a byte 9 ends.
 record Parted (t : List ℕ) : Type 0 where
@@ -42,7 +33,7 @@ module _ (lo hi : ℕ) (high : 10 < lo) where
   all_count [] a = count_none 9
   all_count (c ∷ t) a =
       let f = all_first lo hi c t a in
-      count_pass 9 c t (λ e. omega arith) ∙ all_count t f.1
+      count_pass 9 c t (λ e. omega arith) ∙ all_count t f.2
 
   -- They are the first field of a text.
   parted : (t : List ℕ) → all lo hi (until 9 t) ≡ true → before 9 t < length t → Parted t
@@ -63,7 +54,7 @@ module _ (lo hi : ℕ) (high : 10 < lo) where
             let f = all_first lo hi c (until 9 t) (ap (all lo hi) (sym (until_pass 9 c t m)) ∙ a) in
             let n : c ≡ 10 → ⊥ = λ w. omega arith in
             let k = before_pass 9 c t m in
-            let z = parted t f.1 (omega arith) in
+            let z = parted t f.2 (omega arith) in
             let u = until_pass 10 c t n in
             let y = beyond_pass 9 c t m in
             record {

@@ -3,15 +3,13 @@
 use Rattle.std.specs.Prelude.{Bool, false, cond, List, [], ◌∷◌, ℕ, ◌+◌, ◌<◌, ◌^◌, eqb, leb, length, get_or, Option, Some, None, Result}
 use Rattle.text.specs.Text.{before, until, ahead}
 use Rattle.numbers.specs.Number.{is_number, value_from}
-use Rattle.fields.specs.Fields.{after}
+use Rattle.fields.specs.Fields.{after, in_range}
 use Rattle.fields.specs.declared.Fault.{Fault}
 use Rattle.fields.specs.declared.Range.{Range}
 
 -- A number in the range, of at most 8 digits.
 unfoldable pub is_short : Range → List ℕ → Bool
-is_short range t =
-    let v : ℕ = value_from 0 t in
-    cond (is_number t) (cond (leb (length t) 8) (cond (leb range.least v) (leb v range.most) false) false) false
+is_short range t = cond (is_number t) (cond (leb (length t) 8) (in_range range (value_from 0 t)) false) false
 
 -- What is taken of the text t: the bytes before its first byte `stop`, where there is one and they are such a number; the number,
 -- and how many digits it has.

@@ -7,7 +7,7 @@ use fields::Range;
 use text::TAB;
 
 // The functions `take_..` go over a line once, and take it only where it is sound and not near the end of the text: what they do
-// not take is read by the functions `read_..`, which know why a line is refused.
+// not take is read field by field, by what knows why a line is refused.
 
 // A number of more digits is not taken. Every range but those of the H line ends below 10 ^ 8.
 pub const DIGITS_TAKEN: usize = 8;
@@ -17,7 +17,7 @@ pub fn starts_with(t: &[u8], letter: u8, room: usize) -> bool
     requires { 2 ≤ room }
     ensures { result ≡ starts letter room t.now }
 {
-    room <= t.len() && t[0] == letter && t[1] == TAB
+    room <= t.len() && t.starts_with(&[letter, TAB])
 }
 
 // Takes the number in the range that the text starts with, if it has at most 8 digits and ends at a byte `stop`: its value, and how
@@ -26,23 +26,9 @@ pub fn take_number(t: &[u8], stop: u8, range: Range) -> Option<(u32, usize)>
     requires { (9 ≤ length t.now) × (stop < 48) }
     ensures { result ≡ taken stop range t.now }
 {
-    let mut v: u32 = 0;
-    let mut digits: usize = 0; // no `enumerate`: the count is needed behind the loop, where its place is gone
-    for b in &t[..DIGITS_TAKEN] {
-        if !b.is_ascii_digit() {
-            break;
-        }
-        v = v * 10 + (*b - b'0') as u32;
-        digits += 1;
-    }
-    if digits == 0 || t[digits] != stop {
+    let (value, digits) = numbers::leading_number(&t[..DIGITS_TAKEN])?;
+    if t[digits] != stop || !range.contains(value) {
         return None;
     }
-    if 1 < digits && t[0] == b'0' {
-        return None;
-    }
-    if v < range.least || range.most < v {
-        return None;
-    }
-    Some((v, digits))
+    Some((value as u32, digits))
 }

@@ -36,7 +36,9 @@ fn take_numbers<const N: usize>(
     Some((values, at))
 }
 
-// Takes line j, from 0, of the lines of a kind: what it says, and how many bytes it has, with its byte 10.
+// Takes line j, from 0, of the lines of a kind: what it says, and how many bytes it has, with its byte 10. A twin of `read_line` of
+// `line_kinds`: the kinds have 1, 2 and 3 numbers, so that one function over both readers would need a trait with a generic method, and
+// its contracts, for three arms.
 pub fn take_line(t: &[u8], kind: Kind, j: usize) -> Option<(Entry, usize)>
     ensures { result ≡ entry_taken kind j t.now }
 {

@@ -4,7 +4,6 @@ use mathlib.Core.Path.{◌≡◌, subst}
 use mathlib.Core.List.{List, [], ◌∷◌}
 use Prim.Native.Nat.{ℕ, ◌+◌, ◌≤◌}
 use native.Mathlib.Omega.{arith}
-use lib.Dec.{ltb}
 use lib.ListN.{length}
 use Rattle.std.specs.Prelude.{Result, Ok, Err}
 use Rattle.text.specs.Text.{until, beyond}
@@ -12,7 +11,7 @@ use Rattle.numbers.specs.Number.{is_number, value_from}
 use Rattle.fields.specs.declared.Fault.{Fault}
 use Rattle.fields.specs.declared.Fault.TheVariants.{Shape, Form, Range as OutOfRange}
 use Rattle.fields.specs.declared.Range.{Range}
-use Rattle.fields.specs.Fields.{after, opens, numbers_from, fields_of}
+use Rattle.fields.specs.Fields.{after, in_range, opens, numbers_from, fields_of}
 use Rattle.fields.proofs.After.{after_cases}
 use Rattle.fields.proofs.Within.{cond_cases}
 
@@ -38,9 +37,9 @@ numbers_field [] j t h = tt
 numbers_field (range ∷ ranges) j t h =
     let v = value_from 0 (until 9 t) in
     cond_cases FieldLe (is_number (until 9 t)) _ _
-    (λ a. cond_cases FieldLe (ltb v range.least) _ _ (λ b. omega arith)
-    (λ b. cond_cases FieldLe (ltb range.most v) _ _ (λ c. omega arith)
-    (λ c. after_field (numbers_from ranges (j + 1) (beyond 9 t)) _ (numbers_field ranges (j + 1) (beyond 9 t) (omega arith)) (λ n e. tt))))
+    (λ a. cond_cases FieldLe (in_range range v) _ _
+    (λ b. after_field (numbers_from ranges (j + 1) (beyond 9 t)) _ (numbers_field ranges (j + 1) (beyond 9 t) (omega arith)) (λ n e. tt))
+    (λ b. omega arith))
     (λ a. omega arith)
 
 -- A line of a letter and numbers.

@@ -1,67 +1,29 @@
 -- Laws of lines: what each test of the reader says of the line.
 -- Assumes nothing.
-use mathlib.Core.Logic.{◌⊎◌, ⊎_elim}
 use mathlib.Core.Path.{◌≡◌, refl, ap, sym, ◌∙◌}
 use mathlib.Core.Bool.{true, false}
 use mathlib.Core.List.{List, [], ◌∷◌, ◌++◌}
 use Prim.Native.Nat.{ℕ, zero, suc, ◌+◌, ◌≤◌, ◌<◌}
 use native.Mathlib.Omega.{arith}
-use lib.Dec.{eqb}
+use lib.Dec.{eqb, leb}
 use lib.ListN.{length, get_or, set, take, drop, length-set}
 use lib.Seq.{drop-cons, take_all}
-use borrow.Author.Tests.{lt-ltb, le-ltb, eq-eqb, ne_eqb, eqb-true}
+use borrow.Author.Tests.{leb-true, eqb-true}
 use Rattle.std.specs.Prelude.{Result, Ok, Err, Some, None}
 use Rattle.text.specs.Text.{before, until, beyond, count}
 use Rattle.numbers.specs.Number.{is_number, value_from, next_number}
-use Rattle.text.proofs.Text.{none_test, before_none, before_hit, before_pass}
-use Rattle.text.proofs.Tests.{cond_true, cond_false}
+use Rattle.text.proofs.Text.{none_test}
+use Rattle.text.proofs.Tests.{cond_true}
+use Rattle.std.proofs.lemmas.Bool.{and_parts}
 use Rattle.std.proofs.lemmas.Option.{cond_some}
 use Rattle.std.proofs.Common.{append_assoc, append-nil}
 use Rattle.std.proofs.lemmas.List.{drop_all}
 use Rattle.fields.specs.declared.Fault.{Fault}
 use Rattle.fields.specs.declared.Fault.TheVariants.{Shape, Form, Range as OutOfRange}
 use Rattle.fields.specs.declared.Range.{Range}
-use Rattle.fields.specs.Fields.{Fields, after, opens, numbers_from, fields_of}
+use Rattle.fields.specs.Fields.{Fields, after, in_range, opens, numbers_from, fields_of}
 
 -- ---- the letter and the count of fields
-
-pub some_bytes : (line : List ℕ) → eqb (length line) 0 ≡ false → 0 < length line
-some_bytes [] e = absurd cc
-some_bytes (c ∷ t) e = omega arith
-
-module _ (letter k : ℕ) where
-  pub opens_empty : (line : List ℕ) → eqb (length line) 0 ≡ true → opens letter k line ≡ false
-  unfolding opens
-  opens_empty [] h = rw (before_none 9) refl
-  opens_empty (c ∷ t) h = absurd (omega (arith, eqb-true (length (c ∷ t)) 0 h))
-
-  pub opens_other : (line : List ℕ) → 0 < length line → (get_or line 0 0 ≡ letter → ⊥) → opens letter k line ≡ false
-  unfolding opens
-  opens_other [] h n = absurd (omega arith)
-  opens_other (c ∷ t) h n = rw (ne_eqb c letter n) (cond_false (eqb (before 9 (c ∷ t)) 1))
-
-  module _ (high : 65 ≤ letter) where
-    pub opens_longer : (line : List ℕ) → get_or line 0 0 ≡ letter → 1 < length line → (get_or line 1 0 ≡ 9 → ⊥) → opens letter k line ≡ false
-    unfolding opens
-    opens_longer [] e h n = absurd (omega arith)
-    opens_longer (c ∷ []) e h n = absurd (omega arith)
-    opens_longer (c ∷ d ∷ t) e h n =
-        let a = before_pass 9 c (d ∷ t) (λ q. omega arith) in
-        let b = before_pass 9 d t n in
-        rw (ne_eqb (before 9 (c ∷ d ∷ t)) 1 (λ z. omega (arith, a, b))) refl
-
-    pub opens_count : (line : List ℕ) → 0 < length line → get_or line 0 0 ≡ letter → (length line ≤ 1) ⊎ (get_or line 1 0 ≡ 9) →
-        opens letter k line ≡ eqb (count 9 line) k
-    unfolding opens
-    opens_count [] h e c = absurd (omega arith)
-    opens_count (a ∷ t) h e c =
-        let z : before 9 t ≡ 0 = alone t c in
-        let q : before 9 (a ∷ t) ≡ 1 = omega (arith, before_pass 9 a t (λ w. omega arith), z) in
-        rw (eq-eqb (before 9 (a ∷ t)) 1 q, eq-eqb a letter e) refl
-      where
-        alone : (t : List ℕ) → (length (a ∷ t) ≤ 1) ⊎ (get_or (a ∷ t) 1 0 ≡ 9) → before 9 t ≡ 0
-        alone [] m = before_none 9
-        alone (d ∷ t) m = ⊎_elim (λ (l : length (a ∷ d ∷ t) ≤ 1). absurd (omega arith)) (λ (l : d ≡ 9). before_hit 9 d t l) m
 
 module _ (letter k : ℕ) (line : List ℕ) (e : opens letter k line ≡ true) where
   -- A line that opens so has the letter alone before its first byte 9, and k bytes 9.
@@ -85,6 +47,9 @@ module _ (letter k : ℕ) (line : List ℕ) (e : opens letter k line ≡ true) w
   opens_beyond = rw opens_before refl
 
 -- ---- numbers
+
+pub in_range_ends : (range : Range) (v : ℕ) → in_range range v ≡ true → (range.least ≤ v) × (v ≤ range.most)
+in_range_ends range v e = let h = and_parts (leb range.least v) (leb v range.most) e in (leb-true _ _ h.0, leb-true _ _ h.1)
 
 module _ (t : List ℕ) where
   -- What a field that was read says of the bytes.
@@ -141,23 +106,21 @@ module _ {ranges : List Range} {first : ℕ} {t values rest : List ℕ} {j : ℕ
     reading_form e = sym (g.same ∙ rw (here, number_none rest e) refl)
 
     module _ (v : ℕ) (more : List ℕ) (e : Some (v, more) ≡ next_number rest) where
-      pub reading_low : v < (range_at ranges j).least → Err (OutOfRange (first + j + 2)) ≡ numbers_from ranges first t
+      pub reading_out : in_range (range_at ranges j) v ≡ false → Err (OutOfRange (first + j + 2)) ≡ numbers_from ranges first t
       unfolding numbers_from
-      reading_low l = let n = number_some rest v more e in sym (g.same ∙ rw (here, n.0, n.1, lt-ltb v (range_at ranges j).least l) refl)
+      reading_out m =
+          let n = number_some rest v more e in
+          sym (g.same ∙ rw (here, n.0, n.1, m) refl)
 
-      pub reading_high : (range_at ranges j).least ≤ v → (range_at ranges j).most < v → Err (OutOfRange (first + j + 2)) ≡ numbers_from ranges first t
+      pub reading_on : in_range (range_at ranges j) v ≡ true → Reading ranges first t (set values j v) more (j + 1)
       unfolding numbers_from
-      reading_high k l = let n = number_some rest v more e in sym (g.same ∙ rw (here, n.0, n.1, le-ltb v (range_at ranges j).least k, lt-ltb (range_at ranges j).most v l) refl)
-
-      pub reading_on : (range_at ranges j).least ≤ v → v ≤ (range_at ranges j).most → Reading ranges first t (set values j v) more (j + 1)
-      unfolding numbers_from
-      reading_on k l =
+      reading_on m =
           let n = number_some rest v more e in
           let q : j + 1 ≡ suc j = omega arith in
           let p : first + j + 1 ≡ first + suc j = omega arith in
           record {
             long = length-set values j v ∙ g.long;
-            same = g.same ∙ rw (q, here, n.0, n.1, n.2, le-ltb v (range_at ranges j).least k, le-ltb (range_at ranges j).most v l, p, take_set j v values (omega (arith, g.long, h)))
+            same = g.same ∙ rw (q, here, n.0, n.1, n.2, m, p, take_set j v values (omega (arith, g.long, h)))
                 (in_front_more (take j values) v (numbers_from (drop (suc j) ranges) (first + suc j) more));
           }
 

@@ -4,17 +4,15 @@ use mathlib.Core.Path.{◌≡◌, refl, subst}
 use mathlib.Core.Bool.{Bool, true, false, cond}
 use mathlib.Core.List.{List, [], ◌∷◌}
 use Prim.Native.Nat.{ℕ, zero, suc, ◌+◌, ◌≤◌, ◌<◌}
-use lib.Dec.{ltb}
 use native.Mathlib.Omega.{arith}
 use lib.ListN.{length, get_or}
-use borrow.Author.Tests.{ltb-false}
 use Rattle.std.specs.Prelude.{Ok}
 use Rattle.text.specs.Text.{until, beyond}
 use Rattle.numbers.specs.Number.{is_number, value_from}
 use Rattle.fields.specs.declared.Range.{Range}
-use Rattle.fields.specs.Fields.{Fields, opens, numbers_from, fields_of}
-use Rattle.fields.proofs.Fields.{range_at}
-use Rattle.fields.proofs.After.{after_ok, cond_ok, cond_fault}
+use Rattle.fields.specs.Fields.{Fields, in_range, opens, numbers_from, fields_of}
+use Rattle.fields.proofs.Fields.{in_range_ends, range_at}
+use Rattle.fields.proofs.After.{after_ok, cond_ok}
 
 -- What holds after a test.
 pub cond_cases : {X : Type 0} (P : X → Type 0) (b : Bool) (x y : X) → (b ≡ true → P x) → (b ≡ false → P y) → P (cond b x y)
@@ -41,12 +39,12 @@ numbers_held [] j t n e = let q : [] ≡ n.values = cc in subst (Held []) q tt
 numbers_held (range ∷ ranges) j t n e =
     let v = value_from 0 (until 9 t) in
     let a = cond_ok (is_number (until 9 t)) _ _ n e in
-    let b = cond_fault (ltb v range.least) _ _ n a.1 in
-    let c = cond_fault (ltb range.most v) _ _ n b.1 in
-    let d = after_ok (numbers_from ranges (j + 1) (beyond 9 t)) _ n c.1 in
+    let b = cond_ok (in_range range v) _ _ n a.1 in
+    let h = in_range_ends range v b.0 in
+    let d = after_ok (numbers_from ranges (j + 1) (beyond 9 t)) _ n b.1 in
     let q : v ∷ d.0.values ≡ n.values = cc in
     subst (Held (range ∷ ranges)) q
-    (ltb-false _ _ b.0, ltb-false _ _ c.0, numbers_held ranges (j + 1) (beyond 9 t) d.0 d.1)
+    (h.0, h.1, numbers_held ranges (j + 1) (beyond 9 t) d.0 d.1)
 
 -- The numbers of a sound line of a letter and numbers.
 pub fields_held : (letter : ℕ) (ranges : List Range) (line vs : List ℕ) → fields_of letter ranges line ≡ Ok vs → Held ranges vs

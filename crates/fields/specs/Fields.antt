@@ -1,7 +1,7 @@
 -- What a line of a sheet says (document 01, 'The sheet' and 'What is refused'): its letter, its count of fields, and its fields
 -- from the left, "each one's form and then its range before the next field".
 -- Assumes nothing.
-use Rattle.std.specs.Prelude.{Bool, false, cond, List, [], ◌∷◌, ℕ, ◌+◌, eqb, ltb, length, get_or, Result, Ok, Err}
+use Rattle.std.specs.Prelude.{Bool, false, cond, ◌&&◌, List, [], ◌∷◌, ℕ, ◌+◌, eqb, leb, length, get_or, Result, Ok, Err}
 use Rattle.std.specs.Result.{result_map_both}
 use Rattle.text.specs.Text.{before, until, beyond, count}
 use Rattle.numbers.specs.Number.{is_number, value_from}
@@ -13,6 +13,10 @@ use Rattle.fields.specs.declared.Numbers.{Numbers}
 -- The range of a number, both ends included.
 abbrev pub from_to : ℕ → ℕ → Range
 from_to least most = record { least = least; most = most }
+
+-- "from .. to ..": a number in the range.
+abbrev pub in_range : Range → ℕ → Bool
+in_range range n = leb range.least n && leb n range.most
 
 -- Numbers of a line, and the rest of the line after them.
 pub record Fields : Type 0 where
@@ -34,9 +38,9 @@ numbers_from [] j t = Ok (record { values = []; rest = t })
 numbers_from (range ∷ ranges) j t =
     let v : ℕ = value_from 0 (until 9 t) in
     cond (is_number (until 9 t))
-    (cond (ltb v range.least) (Err (OutOfRange (j + 2)))
-    (cond (ltb range.most v) (Err (OutOfRange (j + 2)))
-    (after (numbers_from ranges (j + 1) (beyond 9 t)) Err (λ n. Ok (record { values = v ∷ n.values; rest = n.rest })))))
+    (cond (in_range range v)
+    (after (numbers_from ranges (j + 1) (beyond 9 t)) Err (λ n. Ok (record { values = v ∷ n.values; rest = n.rest })))
+    (Err (OutOfRange (j + 2))))
     (Err (Form (j + 2)))
 
 -- A line of a letter and numbers in the ranges.

@@ -1,7 +1,7 @@
 #![tactic(auto)]
 
-ghost use Rattle.std.specs.Prelude.{◌≡◌, ◌+◌, ◌≤◌, ◌<◌, ◌^◌};
-ghost use Rattle.fields.specs.Fields.{opens, numbers_from, numbers_in, fields_of};
+ghost use Rattle.std.specs.Prelude.{◌≡◌, ◌+◌, ◌<◌, ◌^◌, true};
+ghost use Rattle.fields.specs.Fields.{in_range, opens, numbers_from, numbers_in, fields_of};
 
 use text::{Line, TAB};
 
@@ -13,11 +13,21 @@ pub enum Fault {
     Range(usize),
 }
 
-// The range of a number, both ends included (document 01: "from .. to ..").
+// The range of a number, both ends included (document 01: "from .. to .."). No `RangeInclusive`: a constant takes no call, so that
+// `0..=9` is refused there, and it has a state of its own, used up, in which its last number is out.
 #[derive(Clone, Copy)]
 pub struct Range {
     pub least: u32,
     pub most: u32,
+}
+
+impl Range {
+    pub fn contains(self, n: u64) -> bool
+        ensures whole { result ≡ in_range self n }
+        ensures small { result ≡ true → n < 2 ^ 32 }
+    {
+        self.least as u64 <= n && n <= self.most as u64
+    }
 }
 
 // The next N numbers of a line, and the rest of it after them.
@@ -27,23 +37,17 @@ pub struct Numbers<'a, const N: usize> {
     pub rest: &'a [u8],
 }
 
-// Whether a line's first field is the letter and k fields come after it. Each call names its letter, so that a type of letters, none of
-// which is byte 9, would say no more.
+// Whether a line's first field is the letter and k fields come after it. Not copied into each reader: the archive's code has a bound.
+#[inline(never)]
 pub fn opens_with(line: Line, letter: u8, k: usize) -> bool
-    requires { 65 ≤ letter }
     ensures { result ≡ opens letter k line.entry.bytes.now }
 {
-    let s = line.bytes;
-    if s.is_empty() || s[0] != letter {
-        return false;
-    }
-    if 1 < s.len() && s[1] != TAB {
-        return false;
-    }
-    line.tabs == k
+    let letters = text::find(line.bytes, TAB);
+    letters == 1 && line.bytes[0] == letter && line.tabs == k
 }
 
-// Reads the numbers from number `first` on of the rest of a line, each of them in its range.
+// Reads the numbers from number `first` on of the rest of a line, each of them in its range. Rest and number go on together in an H line
+// alone, which is read in two parts; what holds both would be left at a field at fault.
 pub fn read_numbers<const N: usize>(
     t: &[u8],
     first: usize,
@@ -58,7 +62,7 @@ pub fn read_numbers<const N: usize>(
         let Some(number) = numbers::read_number(rest) else {
             return Err(Fault::Form(first + j + 2));
         };
-        if number.value < range.least as u64 || (range.most as u64) < number.value {
+        if !range.contains(number.value) {
             return Err(Fault::Range(first + j + 2));
         }
         values[j] = number.value as u32;
@@ -73,7 +77,7 @@ pub fn read_fields<const N: usize>(
     letter: u8,
     ranges: [Range; N],
 ) -> Result<[u32; N], Fault>
-    requires { (65 ≤ letter) × (N + 2 < 2 ^ 64) }
+    requires { N + 2 < 2 ^ 64 }
     ensures { result ≡ fields_of letter ranges.entry line.entry.bytes.now }
 {
     if !opens_with(line, letter, N) {

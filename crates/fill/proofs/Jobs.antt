@@ -7,11 +7,10 @@ use Prim.Native.Nat.{ℕ, suc, ◌+◌, ◌*◌, ◌-◌, ◌/◌, ◌%◌, ◌�
 use native.Mathlib.Nat.{div-add-mod', div-lt_iff_lt-mul, mod-lt, mul-pos}
 use native.Mathlib.Decide.{dec_lt}
 use native.Mathlib.Omega.{arith}
-use lib.ListN.{get_or, length}
+use lib.ListN.{get_or}
 use Rattle.frame.specs.Sheet.{Sheet, Ranges}
 use Rattle.frame.specs.Table.{energy_cells, temperature_cells, need, word_at}
 use Rattle.table.specs.Table.{cells, base}
-use Rattle.store.specs.Store.{changes_max}
 use Rattle.word.specs.Word.{far, settled}
 use Rattle.open_ways.specs.declared.Move.{Move}
 use Rattle.open_ways.specs.Moves.{Moving, relaxed_at}
@@ -22,9 +21,9 @@ use Rattle.table.proofs.Places.{base_level, base_next, base_mono, base_need}
 use Rattle.fill.specs.Layer.{FilledFrom}
 use Rattle.fill.proofs.Layering.{moving, lows, relaxed_word}
 
-module _ (s : Sheet) (ok : Ranges s) (i : ℕ) (hi : i < s.jobs) {moves : List Move} {old mid new : List ℕ}
-    (w : Moves s i (s.levels * s.levels) moves) (x : Expanded s i old mid)
-    (v : Levels mid new (base s i 0) s.levels (cells s) 0 (cells s) (λ (p y : ℕ). settled (relaxed_at moves mid s.levels (cells s) (base s i 0) p s.levels y)))
+module _ (s : Sheet) (ok : Ranges s) (i : ℕ) (hi : i < s.jobs) {moves : List (List Move)} {old mid new : List ℕ}
+    (w : Moves s i moves) (x : Expanded s i old mid)
+    (v : Levels mid new (base s i 0) s.levels (cells s) 0 (cells s) (λ (p y : ℕ). settled (relaxed_at moves mid (cells s) (base s i 0) p s.levels y)))
     (f : FilledFrom s (base s (suc i) 0) old old) where
   cells_some : 0 < cells s
   unfolding cells energy_cells temperature_cells
@@ -62,10 +61,10 @@ module _ (s : Sheet) (ok : Ranges s) (i : ℕ) (hi : i < s.jobs) {moves : List M
 
 -- ---- the same by the numbers that the code has
 
-module _ (s : Sheet) (ok : Ranges s) (i : ℕ) (hi : i < s.jobs) {moves : List Move} (w : Moves s i (s.levels * s.levels) moves)
+module _ (s : Sheet) (ok : Ranges s) (i : ℕ) (hi : i < s.jobs) {moves : List (List Move)} (w : Moves s i moves)
     {levels width at : ℕ} (l : levels ≡ s.levels) (c : width ≡ cells s) (a : at ≡ base s i 0) where
-  pub moving_by : changes_max ≤ length moves → Moving levels width moves
-  moving_by r = rw (l, c) (moving s ok i hi w r)
+  pub moving_by : Moving levels width moves
+  moving_by = rw (l, c) (moving s ok i hi w)
 
   pub room_by : at + levels * width ≤ need s
   room_by = rw (l, c, a) (omega (arith, base_next s i 0, base_mono s (suc i) s.jobs (omega arith), base_need s))
@@ -75,5 +74,5 @@ module _ (s : Sheet) (ok : Ranges s) (i : ℕ) (hi : i < s.jobs) {moves : List M
     lows_by = rw (l, c, a) (lows s ok i hi w x.ahead)
 
     pub filled_by : {new : List ℕ} → FilledFrom s (base s (suc i) 0) old old →
-        Levels mid new at levels width 0 width (λ (p y : ℕ). settled (relaxed_at moves mid levels width at p levels y)) → FilledFrom s (base s i 0) old new
+        Levels mid new at levels width 0 width (λ (p y : ℕ). settled (relaxed_at moves mid width at p levels y)) → FilledFrom s (base s i 0) old new
     filled_by f v = filled_job s ok i hi w x (rw (l, c, a) at v) f

@@ -30,11 +30,8 @@ fn expand_level(problem: &Problem, table: &mut [u32], i: u32, j: u32)
     let rows = Rows { at, count, width };
     let last = rows.last_row();
     map_cells(problem, &mut table[last..last + width], i, j);
-    if i + 1 < problem.frame.head.jobs {
-        expand::gather_rows(table, rows, at + levels * count * width);
-    } else {
-        expand::finish_rows(table, rows);
-    }
+    let next = (i + 1 < problem.frame.head.jobs).then_some(at + levels * count * width);
+    expand::expand_rows(table, rows, next);
 }
 
 // The same for all levels.

@@ -8,8 +8,9 @@ use fields::{Fault, Range};
 use store::{COST_MAX, Change, DECAY_MAX, POWER_MAX, Store, TEMPERATURE_MAX, Work};
 use text::Line;
 
-// Which lines: L, with the sheet's thermal resistance; S, of the changes from a level; B, of a job. An enum and no trait: one loop reads
-// and puts all three, and a type for each would put three copies of it into mask memory.
+// Which lines: L, with the sheet's thermal resistance; S, of the changes from a level; B, of a job. An enum and no trait: one loop takes
+// all three, and one reads them; a type for each would put three copies of both into mask memory, and a `dyn` is no plainer where all
+// three are known.
 #[derive(Clone, Copy)]
 pub enum Kind {
     Level(u32),
@@ -28,6 +29,7 @@ pub enum Entry {
 // The steady-state temperature "must be at most 20,000".
 const STEADY_STATE_MAX: u64 = TEMPERATURE_MAX as u64;
 
+// Ranges are written as structs: a constant takes no call.
 pub const POWER: Range = Range {
     least: 0,
     most: POWER_MAX,
@@ -88,7 +90,7 @@ pub fn cost_range(p: usize, j: usize) -> Range
     if j == p { NO_COST } else { COST }
 }
 
-// Reads line j, from 0, of the lines of a kind.
+// Reads line j, from 0, of the lines of a kind. A twin of `take_line` of `fast_lines`, which says why.
 pub fn read_line(line: Line, kind: Kind, j: usize) -> Result<Entry, Fault>
     ensures { result ≡ fields_for kind j line.entry.bytes.now }
 {
@@ -109,7 +111,7 @@ pub fn read_line(line: Line, kind: Kind, j: usize) -> Result<Entry, Fault>
     }
 }
 
-// Puts what line j says in the store.
+// Puts what line j says in the store; j is a plain number, as each call has another.
 pub fn put_entry(store: &mut Store, j: usize, entry: Entry)
     requires { (j < levels_max) × HasPlace entry }
     ensures { store.new ≡ put j entry store.old }

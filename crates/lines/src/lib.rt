@@ -1,20 +1,21 @@
 #![tactic(auto)]
 
-ghost use Rattle.std.specs.Prelude.{◌≡◌, ◌≤◌, ◌-◌};
+ghost use Rattle.std.specs.Prelude.{◌≡◌, ◌≤◌};
 ghost use Rattle.store.specs.Store.{levels_max};
 ghost use Rattle.reading.specs.Rest.{rest_of};
 ghost use Rattle.line_kinds.specs.Figures.{KindPlace};
-ghost use Rattle.lines.specs.Lines.{block_from, found_in};
+ghost use Rattle.lines.specs.Lines.{block_from, found_in, taken_from, taken_in};
 
 use line_kinds::Kind;
 use reading::{LineFault, Place};
 use store::Store;
 
 // Takes lines of a block of n lines of a kind to the store, each in one pass, up to one that is not taken: how many, and the place
-// behind them. A loop of its own: one that also reads lines field by field takes a quarter more time.
+// behind them. A loop of its own: with one that also reads lines field by field the longest
+// sheet takes 1.26 times the plain C, and misses its bar of 1.20 in docs/PERFORMANCE.md.
 fn take_lines<'a>(start: Place<'a>, kind: Kind, n: usize, store: &mut Store) -> (usize, Place<'a>)
     requires { record { few : n ≤ levels_max; place : KindPlace kind } }
-    ensures { block_from kind n 0 (rest_of start.entry) store.old ≡ block_from kind (n - result.0) result.0 (rest_of result.1) store.new }
+    ensures { taken_in result store.new ≡ taken_from kind n 0 (rest_of start.entry) store.old }
 {
     let mut place = start;
     for j in 0..n {
@@ -28,6 +29,7 @@ fn take_lines<'a>(start: Place<'a>, kind: Kind, n: usize, store: &mut Store) -> 
 }
 
 // Reads n lines of a kind to the store: the place behind them. Those that are taken in one pass first, then the others field by field.
+// Place and store stay two: of what held the store by `&mut` each contract would have to say besides that it still holds the same one.
 pub fn read_block<'a>(
     start: Place<'a>,
     kind: Kind,

@@ -14,8 +14,9 @@ use Rattle.frame.specs.Table.{energy_cells, temperature_cells, need, place}
 use Rattle.frame.proofs.Table.{place_lt, energy_cell, temperature_cell, least_word}
 use Rattle.run.specs.Run.{state_of}
 use Rattle.run.specs.declared.Run.{Run}
-use Rattle.table.specs.declared.Frame.{Frame}
+use Rattle.table.specs.declared.axes.Frame.{Frame}
 use Rattle.table.specs.Table.{Axes, Holds}
+use Rattle.table.proofs.Frames.{energy_count, temperature_count}
 use Rattle.table.proofs.Cells.{raises}
 use Rattle.lookup.specs.Lookup.{place_for, rest_by, place_by, rest_in, Looks}
 
@@ -24,7 +25,7 @@ use Rattle.lookup.specs.Lookup.{place_for, rest_by, place_by, rest_in, Looks}
 module _ {s : Sheet} {f : Frame} (x : Axes s f) (b : Run) where
   pub place_is : place_by f b ≡ place_for s (state_of b)
   unfolding place_by place_for place
-  place_is = rw (x.levels, x.energy_count, x.temperature_count, x.energy_step, x.temperature_step) refl
+  place_is = rw (x.levels, energy_count x, temperature_count x, x.energy_step, x.temperature_step) refl
 
   pub rest_is : (t : List ℕ) → rest_in f t b ≡ rest_by s t (state_of b)
   unfolding rest_in rest_by
@@ -56,12 +57,7 @@ looks {s} {f} x b l u v h d =
     rw (place_is x b)
     (place_lt s b.done b.level _ _ l (energy_cell s ok b.energy u) (temperature_cell s ok b.temperature v) s.jobs (omega (arith, x.jobs))) in
     record {
-      steps = record {
-        raises = raises x b u v;
-        energy_count = omega (arith, x.energy_count);
-        temperature_count = omega (arith, x.temperature_count);
-        allowed = omega (arith, k, x.allowed);
-      };
+      steps = record { raises = raises ok b u v; allowed = omega (arith, k, x.allowed) };
       room = omega (arith, k, h);
     }
 

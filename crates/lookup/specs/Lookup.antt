@@ -1,13 +1,13 @@
 -- What a table says of the time after a job (document 01, 'The rounded run and the table'): the word of the cell to which the state
 -- at the job's end is raised.
 -- Assumes nothing.
-use Rattle.std.specs.Prelude.{cond, List, ℕ, ◌+◌, ◌*◌, ◌≤◌, ◌<◌, ltb, get_or}
+use Rattle.std.specs.Prelude.{cond, List, ℕ, ◌+◌, ◌*◌, ◌<◌, ltb, get_or}
 use Rattle.thermal.specs.Rounding.{ceil_div}
 use Rattle.frame.specs.Sheet.{Sheet}
 use Rattle.frame.specs.Run.{State}
 use Rattle.frame.specs.Table.{place, words_max}
 use Rattle.run.specs.declared.Run.{Run}
-use Rattle.table.specs.declared.Frame.{Frame}
+use Rattle.table.specs.declared.axes.Frame.{Frame}
 use Rattle.table.specs.Table.{Raises}
 
 -- The place of the cell to which a state is raised.
@@ -28,11 +28,9 @@ place_by f b =
 unfoldable pub rest_in : Frame → List ℕ → Run → ℕ
 rest_in f table b = cond (ltb b.done f.head.jobs) (get_or table (place_by f b) 0) 0
 
--- What finding a run's cell may rest on: the run can be raised, there are cells, and the place is one of a table that is allowed.
+-- What finding a run's cell may rest on: the run can be raised, and the place is one of a table that is allowed.
 pub record Steps (f : Frame) (b : Run) : Type 0 where
-  pub raises : Raises f b
-  pub energy_count : 1 ≤ f.energy_cells
-  pub temperature_count : 1 ≤ f.temperature_cells
+  pub raises : Raises b
   pub allowed : place_by f b < words_max
 
 -- What reading its word may rest on, in a table of n words.

@@ -4,15 +4,15 @@ ghost use Rattle.std.specs.Prelude.{◌≡◌, ◌<◌, length};
 ghost use Rattle.lookup.specs.Lookup.{Steps, Looks, place_by, rest_in};
 
 use run::Run;
-use table::{Frame, ceil_div};
+use table::Frame;
 
 // The place of the cell to which a run is raised.
 fn place_of(f: Frame, b: Run) -> usize
     requires { Steps f b }
     ensures { result ≡ place_by f b }
 {
-    let a = ceil_div(b.energy as u32, f.head.energy_step) as usize;
-    let t = ceil_div(b.temperature as u32, f.head.temperature_step) as usize;
+    let a = f.energy_cell(b.energy as u32) as usize;
+    let t = f.temperature_cell(b.temperature as u32) as usize;
     let row = b.done as usize * f.head.levels as usize + b.level as usize;
     (row * f.energy_cells + a) * f.temperature_cells + t
 }

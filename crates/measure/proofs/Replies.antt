@@ -8,9 +8,10 @@ use native.Mathlib.Omega.{arith}
 use lib.IntN.{ℤ, sub_ℕ}
 use lib.ListN.{length}
 use borrow.Author.Tests.{lt-ltb, le-ltb, eq-eqb, ne_eqb}
-use Rattle.frame.specs.Sheet.{Sheet}
+use Rattle.frame.specs.Sheet.{Sheet, Ranges}
 use Rattle.frame.specs.Run.{State, start, exact_run}
 use Rattle.frame.specs.Limits.{margins}
+use Rattle.frame.specs.Demands.{LevelList}
 use Rattle.store.specs.declared.Store.{Store}
 use Rattle.store.specs.Figures.{sheet_of}
 use Rattle.run.proofs.Small.{small_start, small_run}
@@ -18,8 +19,7 @@ use Rattle.std.specs.Prelude.{Result, Ok, Err}
 use Rattle.store.specs.declared.Head.{Head}
 use Rattle.refusal.specs.declared.Refusal.{Refusal}
 use Rattle.sheet.specs.Reading.{read_in, reading_of}
-use Rattle.sheet.proofs.Ranges.{reading_ranges}
-use Rattle.measure.specs.Measure.{first_above, Measurable, refused_measured, measured_as, turned_away, measure_of}
+use Rattle.measure.specs.Measure.{first_above, refused_measured, measured_as, turned_away, measure_of}
 use Rattle.measure.proofs.Levels.{none_below}
 
 -- ---- how large the figures of a measured list can be
@@ -31,8 +31,8 @@ pub record Under (a : State) : Type 0 where
   pub temperature : a.temperature < 2 ^ 63
   pub peak : a.peak < 2 ^ 63
 
-pub measured_under : {s : Sheet} {js : List ℕ} → Measurable s js → Under (exact_run s (start s) js)
-measured_under {s} {js} w = let r = w.ranges in omega (arith, small_run r js 0 (start s) (small_start r), r.jobs.high, w.list.size)
+pub measured_under : {s : Sheet} {js : List ℕ} → Ranges s → LevelList s s.jobs js → Under (exact_run s (start s) js)
+measured_under {s} {js} r w = omega (arith, small_run r js 0 (start s) (small_start r), r.jobs.high, w.size)
 
 -- The reply that holds the margins of a run.
 pub margins_hold : (s : Sheet) (js : List ℕ) (a : State) → a ≡ exact_run s (start s) js → (time energy temperature : ℤ) →
@@ -63,10 +63,6 @@ module _ (t js : List ℕ) (r : Result Head Refusal) (st : Store) (e : read_in r
         unfolding measure_of sheet_of
         measure_given = rw (sym e, n, eq-eqb (length js) h.jobs m, le-ltb (first_above h.levels js) (length js) l) refl
 
-        pub measurable : Measurable (sheet_of h st) js
+        pub listed : let s = sheet_of h st in LevelList s s.jobs js
         unfolding sheet_of
-        measurable =
-            record {
-              ranges = reading_ranges t r st e h n;
-              list = record { size = m; below = none_below h.levels js l };
-            }
+        listed = record { size = m; below = none_below h.levels js l }

@@ -2,9 +2,8 @@
 -- signed margins", or refusals 1 to 6 of the sheet, then 11, then 12.
 -- Assumes nothing.
 use Rattle.std.specs.Prelude.{cond, List, [], ◌∷◌, ℕ, suc, eqb, leb, ltb, ℤ, pos, length, Result, Ok, Err}
-use Rattle.frame.specs.Sheet.{Sheet, Ranges}
+use Rattle.frame.specs.Sheet.{Sheet}
 use Rattle.frame.specs.Limits.{Margins, margins}
-use Rattle.frame.specs.Demands.{LevelList}
 use Rattle.refusal.specs.declared.Refusal.{Refusal}
 use Rattle.refusal.specs.Code.{number_of, line_of, field_of, accepted}
 use Rattle.sheet.specs.Reading.{reading_of, sheet_in}
@@ -14,11 +13,6 @@ use Rattle.measure.specs.declared.Margins.{Margins as Given}
 unfoldable pub first_above : ℕ → List ℕ → ℕ
 first_above l [] = 0
 first_above l (j ∷ js) = cond (leb l j) 0 (suc (first_above l js))
-
--- What measuring a list rests on: the sheet's figures are in their ranges, and the list is "any m levels, each below l".
-pub record Measurable (s : Sheet) (js : List ℕ) : Type 0 where
-  pub ranges : Ranges s
-  pub list : LevelList s s.jobs js
 
 -- What the measuring call says of a list: a refusal's number, line and field, or the three margins.
 pub record Measured : Type 0 where

@@ -2,13 +2,14 @@
 
 ghost use Rattle.std.specs.Prelude.{◌≡◌, leb, position, Ok};
 ghost use Rattle.frame.specs.Limits.{margins};
-ghost use Rattle.store.specs.Figures.{sheet_of};
-ghost use Rattle.measure.specs.Measure.{Measurable, measured_as, measured_by, measure_of};
+ghost use Rattle.frame.specs.Demands.{LevelList};
+ghost use Rattle.store.specs.Sheet.{sheet_read};
+ghost use Rattle.measure.specs.Measure.{measured_as, measured_by, measure_of};
 ghost use Rattle.measure.specs.Meaning.{Meaning};
 
 use refusal::Refusal;
 use step::Figures;
-use store::{Head, Store};
+use store::{ReadSheet, Store};
 
 // The three margins of a list: "A negative margin is a broken limit, 0 is met".
 #[derive(Clone, Copy)]
@@ -25,16 +26,16 @@ fn first_above(levels: &[u8], l: u32) -> Option<usize>
     levels.iter().position(|&j| l <= j as u32)
 }
 
-// The margins of a list of levels on a sheet that was read: the head that the reader hands back, and the store that it fills.
-fn margins_of(head: Head, store: &Store, levels: &[u8]) -> Margins
-    requires { Measurable (sheet_of head store.now) levels.now }
-    ensures { measured_by (Ok result) ≡ measured_as (margins (sheet_of head store.now) levels.now) }
+// The margins of a list of levels on a sheet that was read.
+fn margins_of(sheet: ReadSheet, levels: &[u8]) -> Margins
+    requires { let s = sheet_read sheet in LevelList s s.jobs levels.now }
+    ensures { measured_by (Ok result) ≡ measured_as (margins (sheet_read sheet.entry) levels.now) }
 {
-    let deadline = head.deadline as u64;
-    let budget = head.energy_budget as u64;
-    let limit = head.temperature_limit as u64;
-    let figures = Figures::of(store, head.resistance);
-    let first = step::start_of(head);
+    let deadline = sheet.head.deadline as u64;
+    let budget = sheet.head.energy_budget as u64;
+    let limit = sheet.head.temperature_limit as u64;
+    let figures = Figures::of(sheet);
+    let first = step::start_of(sheet.head);
     let last = figures.run_levels(first, levels);
     let time = margin::margin(deadline, last.time);
     let energy = margin::margin(budget, last.energy);
@@ -59,5 +60,9 @@ pub fn measure(s: &[u8], levels: &[u8]) -> Result<Margins, Refusal>
     if let Some(place) = first_above(levels, head.levels) {
         return Err(Refusal::LevelTooHigh(place));
     }
-    Ok(margins_of(head, &store, levels))
+    let sheet = ReadSheet {
+        head,
+        store: &store,
+    };
+    Ok(margins_of(sheet, levels))
 }

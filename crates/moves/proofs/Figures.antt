@@ -5,12 +5,13 @@ use Prim.Native.Nat.{ℕ, ◌+◌, ◌*◌, ◌-◌, ◌/◌, ◌≤◌, ◌<◌
 use native.Mathlib.Omega.{arith}
 use Rattle.thermal.specs.Rounding.{ceil_div}
 use Rattle.frame.specs.Sheet.{Sheet}
-use Rattle.frame.specs.Table.{energy_cells, words_max}
-use Rattle.table.specs.declared.Frame.{Frame}
+use Rattle.frame.specs.Table.{words_max}
+use Rattle.table.specs.declared.axes.Frame.{Frame}
 use Rattle.table.specs.Table.{Axes}
+use Rattle.table.proofs.Frames.{temperature_count}
 use Rattle.table.proofs.Cells.{cells_small}
 use Rattle.open_ways.specs.declared.Move.{Move}
-use Rattle.moves.specs.Moves.{moved, move_of, Counts}
+use Rattle.moves.specs.Moves.{moved, move_of}
 use Rattle.moves.proofs.Reach.{reach_is, shift_is, reach_none, shift_none, reach_shift}
 
 -- ---- one move
@@ -26,22 +27,9 @@ module _ {s : Sheet} {f : Frame} (g : Axes s f) (i p j : ℕ) (energy time : ℕ
       record { shift = up * f.temperature_cells; reach = rows * f.temperature_cells; time = time } ≡ move_of s i p j
   move_some h up rows y z =
       let w : (moved s i p j).energy ≤ s.energy_budget = omega (arith, h, e, g.energy_budget) in
-      rw (shift_is s g.ranges i p j w, reach_is s g.ranges i p j w, y, z, e, t, g.energy_budget, g.energy_step, g.temperature_count) refl
+      rw (shift_is s g.ranges i p j w, reach_is s g.ranges i p j w, y, z, e, t, g.energy_budget, g.energy_step, temperature_count g) refl
 
 module _ {s : Sheet} {f : Frame} (g : Axes s f) where
-  -- What counting the rows rests on.
-  pub counts : (energy up : ℕ) → energy ≤ f.head.energy_budget → up ≡ ceil_div energy f.head.energy_step → Counts f energy up
-  unfolding energy_cells
-  counts energy up h u =
-      record {
-        enough = h;
-        budget = omega (arith, g.energy_budget, g.ranges.energy_budget);
-        step = omega (arith, g.energy_step, g.ranges.energy_step.low);
-        step_most = omega (arith, g.energy_step, g.ranges.energy_step.high);
-        raised = u;
-        rows = rw (g.energy_count, g.energy_budget, g.energy_step) refl;
-      }
-
   -- The figures of a move fit a word.
   pub move_small : (i p j : ℕ) (m : Move) → m ≡ move_of s i p j → (m.shift ≤ words_max) × (m.reach ≤ words_max)
   move_small i p j m e =

@@ -69,7 +69,3 @@ module _ (s : Sheet) (ok : Ranges s) (i p j : ℕ) where
   pub moved_time : (moved s i p j).time ≤ job_most
   unfolding step change job
   moved_time = omega (arith, ok.change_time p j, ok.job_time i j)
-
-  pub moved_energy : (moved s i p j).energy ≤ job_most
-  unfolding step change job
-  moved_energy = omega (arith, ok.change_energy p j, ok.job_energy i j)

@@ -1,12 +1,12 @@
 -- The moves of a job from one level to another (document 01, 'The rounded run and the table'). From a cell, a job at level j moves the
 -- energy cell by a number that is the same for all cells, and is lawful for the first cells of the energy axis.
 -- Assumes nothing.
-use Rattle.std.specs.Prelude.{◌≡◌, cond, List, ℕ, ◌+◌, ◌*◌, ◌-◌, ◌/◌, ◌%◌, ◌≤◌, ◌<◌, ltb}
+use Rattle.std.specs.Prelude.{◌≡◌, cond, List, ℕ, ◌+◌, ◌*◌, ◌-◌, ◌/◌, ◌≤◌, ◌<◌, ltb}
 use Rattle.thermal.specs.Rounding.{ceil_div}
-use Rattle.frame.specs.Sheet.{Sheet, limit_max}
+use Rattle.frame.specs.Sheet.{Sheet}
 use Rattle.frame.specs.Run.{State, fresh, step}
 use Rattle.frame.specs.Table.{temperature_cells}
-use Rattle.table.specs.declared.Frame.{Frame}
+use Rattle.table.specs.declared.axes.Frame.{Frame}
 use Rattle.open_ways.specs.declared.Move.{Move}
 use Rattle.open_ways.specs.Moves.{move_at}
 
@@ -32,12 +32,8 @@ move_of s i p j = record { shift = shift_of s i p j; reach = reach_of s i p j; t
 -- What counting lawful rows may rest on: some cell has the energy, and up is the energy's cells.
 pub record Counts (f : Frame) (energy up : ℕ) : Type 0 where
   pub enough : energy ≤ f.head.energy_budget
-  pub budget : f.head.energy_budget ≤ limit_max
-  pub step : 1 ≤ f.head.energy_step
-  pub step_most : f.head.energy_step ≤ limit_max
   pub raised : up ≡ ceil_div energy f.head.energy_step
-  pub rows : f.energy_cells ≡ ceil_div f.head.energy_budget f.head.energy_step + 1
 
--- The first n of the l × l moves of job i, by level left and then level entered. What stands behind them is open.
-pub record Moves (s : Sheet) (i n : ℕ) (moves : List Move) : Type 0 where
-  pub each : (u : ℕ) → u < n → move_at moves u ≡ move_of s i (u / s.levels) (u % s.levels)
+-- The l × l moves of job i, by level left and then level entered. What stands beside them is open.
+pub record Moves (s : Sheet) (i : ℕ) (moves : List (List Move)) : Type 0 where
+  pub each : (p j : ℕ) → p < s.levels → j < s.levels → move_at moves p j ≡ move_of s i p j

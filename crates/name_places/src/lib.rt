@@ -6,8 +6,8 @@ ghost use Rattle.name_places.specs.Place.{skip, next_name};
 
 use text::{LINE_END, TAB};
 
-// What comes after the next n lines of a text; nothing where it has fewer, and no Option, as in `name_on`. Not copied into each caller:
-// the archive's code has a bound.
+// What comes after the next n lines of a text; nothing where it has fewer, and no Option, as `name_on` finds an empty part
+// there. Not copied into each caller: the archive's code has a bound.
 #[inline(never)]
 pub fn skip_lines(t: &[u8], n: usize) -> &[u8]
     ensures { result.now ≡ skip n t.now }

@@ -14,7 +14,7 @@ pub fn name_at(s: &[u8], n: usize) -> &[u8]
     name_places::name_on(name_places::skip_lines(s, n))
 }
 
-// The lines of a job on a sheet of l levels.
+// The lines of a job on a sheet of l levels: of the number alone, as a `Counts` would be made for this.
 pub fn job_lines(l: usize) -> usize
     requires { l ≤ levels_max }
     ensures { result ≡ job_lines l }
@@ -30,7 +30,8 @@ pub fn lines_before(l: usize, i: usize) -> usize
     body::HEAD_LINES + l + l * l + i * job_lines(l)
 }
 
-// The name of job i, as that part of the sheet itself; nothing for a refused sheet or a job that it does not have.
+// The name of job i, as that part of the sheet itself; for a refused sheet or a job that it does not have, no Option: document 01 wants
+// "gives an empty part".
 pub fn job_name(s: &[u8], i: usize) -> &[u8]
     ensures { result.now ≡ name_of s.now i }
 {

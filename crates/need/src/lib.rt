@@ -3,7 +3,7 @@
 // The table that a sheet needs: its axes, and how many words it has.
 ghost use Rattle.std.specs.Prelude.{◌≡◌, ◌<◌, ◌^◌, IfOk};
 ghost use Rattle.frame.specs.Table.{need};
-ghost use Rattle.need.specs.Axes.{Lawful, bare, axes_of};
+ghost use Rattle.need.specs.Axes.{Lawful, bare, head_axes, axes_of};
 ghost use Rattle.need.specs.Need.{words_of};
 
 use refusal::Refusal;
@@ -13,11 +13,10 @@ use table::Frame;
 // The head, and the cells of the table's two axes.
 pub fn frame_of(head: Head) -> Frame
     requires { Lawful head }
-    ensures { result ≡ axes_of head }
+    ensures { head_axes result ≡ axes_of head }
 {
-    let energy_cells = table::ceil_div(head.energy_budget, head.energy_step) as usize + 1;
-    let temperature_cells = table::ceil_div(head.temperature_limit, head.temperature_step) as usize
-        + 1;
+    let energy_cells = head.energy_budget.div_ceil(head.energy_step) as usize + 1;
+    let temperature_cells = head.temperature_limit.div_ceil(head.temperature_step) as usize + 1;
     Frame {
         head,
         energy_cells,
@@ -27,7 +26,6 @@ pub fn frame_of(head: Head) -> Frame
 
 // "The need is m × l × A × B words."
 pub fn need_of(f: Frame) -> usize
-    requires { record { lawful : Lawful f.head; axes : f ≡ axes_of f.head } }
     ensures { result ≡ need (bare f.head) }
 {
     f.head.jobs as usize * f.head.levels as usize * f.energy_cells * f.temperature_cells

@@ -15,8 +15,9 @@ use Rattle.frame.specs.Run.{fresh}
 use Rattle.frame.specs.Table.{temperature_cells}
 use Rattle.frame.proofs.Slack.{near_step}
 use Rattle.frame.proofs.Table.{temperature_cell}
-use Rattle.table.specs.declared.Frame.{Frame}
+use Rattle.table.specs.declared.axes.Frame.{Frame}
 use Rattle.table.specs.Table.{Axes}
+use Rattle.table.proofs.Frames.{temperature_count}
 use Rattle.next_cells.specs.Next.{warmed, next_cell}
 
 module _ (s : Sheet) (ok : Ranges s) (i j : ℕ) where
@@ -42,4 +43,4 @@ module _ {s : Sheet} {f : Frame} (g : Axes s f) (i j b : ℕ) where
   pub cell_is : (t v : ℕ) → t ≡ warmed s i j (b * s.temperature_step) →
       v ≡ cond (leb t f.head.temperature_limit) (ceil_div t f.head.temperature_step) f.temperature_cells → v ≡ next_cell s i j b
   unfolding next_cell
-  cell_is t v e z = rw (g.temperature_limit, g.temperature_step, g.temperature_count, e) at z
+  cell_is t v e z = rw (g.temperature_limit, g.temperature_step, temperature_count g, e) at z

@@ -1,12 +1,11 @@
 -- The temperature cell after a job (document 01, 'The rounded run and the table'). From a cell, a job at level j moves the temperature
 -- cell to one that is the same for all levels left and all energy cells.
 -- Assumes nothing.
-use Rattle.std.specs.Prelude.{◌≡◌, cond, ℕ, ◌+◌, ◌*◌, ◌/◌, ◌≤◌, leb}
+use Rattle.std.specs.Prelude.{cond, ℕ, ◌+◌, ◌*◌, ◌/◌, leb}
 use Rattle.thermal.specs.Rounding.{ceil_div}
-use Rattle.frame.specs.Sheet.{Sheet, temperature_max}
+use Rattle.frame.specs.Sheet.{Sheet}
 use Rattle.frame.specs.Run.{fresh, step}
-use Rattle.frame.specs.Table.{temperature_cells, words_max}
-use Rattle.table.specs.declared.Frame.{Frame}
+use Rattle.frame.specs.Table.{temperature_cells}
 
 -- 2 ^ 32, the scale of a multiplier that stands for a division.
 abbrev pub scale : ℕ
@@ -15,14 +14,6 @@ scale = 4294967296
 -- The multiplier that stands for a division by h: 2 ^ 32 / h, rounded up.
 abbrev pub multiplier_of : ℕ → ℕ
 multiplier_of h = 4294967295 / h + 1
-
--- What finding a temperature cell may rest on.
-pub record Warms (f : Frame) (multiplier : ℕ) : Type 0 where
-  pub limit : f.head.temperature_limit ≤ temperature_max
-  pub step : 1 ≤ f.head.temperature_step
-  pub step_most : f.head.temperature_step ≤ temperature_max
-  pub columns : f.temperature_cells ≤ words_max
-  pub scaled : multiplier ≡ multiplier_of f.head.temperature_step
 
 -- The temperature after job i at level j, from temperature t.
 abbrev pub warmed : Sheet → ℕ → ℕ → ℕ → ℕ

@@ -5,7 +5,7 @@ ghost use Rattle.thermal.specs.Rounding.{ceil_div};
 ghost use Rattle.frame.specs.Sheet.{Sheet};
 ghost use Rattle.frame.specs.Table.{tabulate, temperature_cells};
 ghost use Rattle.table.specs.Problem.{sheet_for};
-ghost use Rattle.next_cells.specs.Next.{Warms, next_cell};
+ghost use Rattle.next_cells.specs.Next.{multiplier_of, next_cell};
 
 use run::Run;
 use table::{Frame, Problem};
@@ -14,9 +14,10 @@ use table::{Frame, Problem};
 const SCALE: u64 = 1 << 32;
 
 // The temperature cell of a temperature at a job's end, B where it is above the limit. The quotient by h is worked out by the
-// multiplier 2 ^ 32 / h, rounded up: it is exact for numbers as small as these.
+// multiplier 2 ^ 32 / h, rounded up: it is exact for numbers as small as these. B stands for no cell, and is no `Option`, as the map's
+// cells lie in the table's words.
 fn cell_of(f: Frame, t: u64, multiplier: u64) -> u32
-    requires { Warms f multiplier }
+    requires { multiplier ≡ multiplier_of f.head.temperature_step }
     ensures { result ≡ cond (leb t f.head.temperature_limit) (ceil_div t f.head.temperature_step) f.temperature_cells }
 {
     if t <= f.head.temperature_limit as u64 {

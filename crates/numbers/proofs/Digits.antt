@@ -1,38 +1,32 @@
--- Laws of the form of numbers: what each test of a byte says of the field.
+-- Laws of the form of numbers: the digits that a text starts with, the number that they are, and the field that they fill.
 -- Assumes nothing.
 use mathlib.Core.Path.{◌≡◌, refl, ap, sym, ◌∙◌}
 use mathlib.Core.Logic.{◌⊎◌, inl, inr, ⊎_elim}
-use mathlib.Core.Bool.{Bool, true, false, cond}
+use mathlib.Core.Bool.{true, false}
 use mathlib.Core.List.{List, [], ◌∷◌}
-use Prim.Native.Nat.{ℕ, suc, ◌+◌, ◌-◌, ◌*◌, ◌^◌, ◌≤◌, ◌<◌}
+use Prim.Native.Nat.{ℕ, zero, suc, ◌+◌, ◌-◌, ◌*◌, ◌^◌, ◌≤◌, ◌<◌}
 use native.Mathlib.Nat.{pow-suc, pow-le-pow_right}
+use native.Mathlib.Decide.{dec_le, ℕ_discrete}
 use native.Mathlib.Omega.{arith}
 use lib.Dec.{eqb, ltb}
-use lib.ListN.{length, get_or, drop}
-use lib.Seq.{get_or-take}
-use borrow.Author.Tests.{lt-ltb, le-ltb, eq-eqb, ne_eqb}
+use lib.ListN.{length, get_or, take, drop, length-take}
+use borrow.Author.Tests.{lt-ltb, le-ltb, ltb-false, lt-leb, le-leb, eq-eqb, ne_eqb}
 use Rattle.std.specs.Prelude.{Some, None}
+use Rattle.std.specs.Char.{is_ascii_digit}
+use Rattle.std.proofs.lemmas.List.Folds.{length-prefix_len}
+use Rattle.std.proofs.lemmas.List.Sums.{take_while-cons, prefix_len-le-length}
+use Rattle.std.proofs.lemmas.Option.{cond_some}
 use Rattle.text.specs.Text.{before, until, beyond, all}
-use Rattle.numbers.specs.Number.{leading_zero, is_number, value_from, next_number}
-use Rattle.text.proofs.Tests.{cond_false}
-use Rattle.text.proofs.Text.{until_hit, until_pass, until_none, drop_none, drop_here, length_until, all_low, all_high, all_on, all_none}
+use Rattle.numbers.specs.Number.{leading_zero, is_number, value_from, leading_digits, leading_number, next_number}
+use Rattle.text.proofs.Tests.{clash, cond_else, cond_false, not_so}
+use Rattle.text.proofs.Text.{none_test, until_hit, until_pass, until_none, drop_none, drop_here, before_byte, length_until, all_on, all_first, all_none}
 
 -- ---- a number, by places
-
-other : (a b c : Bool) → cond a false (cond b false (cond c false false)) ≡ false
-other true b c = refl
-other false true c = refl
-other false false true = refl
-other false false false = refl
 
 module _ (t : List ℕ) where
   pub number_empty : length t ≡ 0 → is_number t ≡ false
   unfolding is_number
   number_empty e = simp (eq-eqb (length t) 0 e)
-
-  pub number_long : 10 < length t → is_number t ≡ false
-  unfolding is_number
-  number_long h = simp (ne_eqb (length t) 0 (λ e. omega arith), lt-ltb 10 (length t) h)
 
   pub number_zero : 1 < length t → get_or t 0 0 ≡ 48 → is_number t ≡ false
   unfolding is_number leading_zero
@@ -51,106 +45,203 @@ module _ (t : List ℕ) where
   unfolding is_number
   number_digits h k c = simp (ne_eqb (length t) 0 (λ e. omega arith), le-ltb 10 (length t) k, no_zero c)
 
-  pub number_other : all 48 57 t ≡ false → is_number t ≡ false
-  unfolding is_number
-  number_other e = rw e (other (eqb (length t) 0) (ltb 10 (length t)) (leading_zero t))
+-- ---- the digits that a text starts with
 
--- Of the field at the front of the text t, which a byte b ends, i digits of value v are read.
-pub record Digits (b : ℕ) (t : List ℕ) (i v : ℕ) : Type 0 where
+-- A byte that is no digit.
+abbrev pub NoDigit : ℕ → Type 0
+NoDigit b = (b < 48) ⊎ (57 < b)
+
+module _ (b : ℕ) (t : List ℕ) where
+  digits_on : 48 ≤ b → b ≤ 57 → leading_digits (b ∷ t) ≡ b ∷ leading_digits t
+  digits_on l h = take_while-cons is_ascii_digit b t ∙ simp (le-leb 48 b l, le-leb b 57 h)
+
+  digits_off : NoDigit b → leading_digits (b ∷ t) ≡ []
+  digits_off n =
+      take_while-cons is_ascii_digit b t
+      ∙ ⊎_elim
+      (λ (l : b < 48). simp (lt-leb 48 b l))
+      (λ (h : 57 < b). simp (le-leb 48 b (omega arith), lt-leb b 57 h))
+      n
+
+-- A byte is a digit or not.
+digit_cases : (b : ℕ) → ((48 ≤ b) × (b ≤ 57)) ⊎ NoDigit b
+digit_cases b =
+    elim (dec_le 48 b) [
+      | yes l ↦ elim (dec_le b 57) [ yes h ↦ inl (l, h) | no n ↦ inr (inr (omega arith)) ]
+      | no n ↦ inr (inl (omega arith))
+    ]
+
+digits_all : (t : List ℕ) → all 48 57 (leading_digits t) ≡ true
+digits_all [] = all_none 48 57
+digits_all (b ∷ t) =
+    ⊎_elim
+    (λ (d : (48 ≤ b) × (b ≤ 57)). ap (all 48 57) (digits_on b t d.0 d.1) ∙ all_on 48 57 b _ d.0 d.1 ∙ digits_all t)
+    (λ (n : NoDigit b). ap (all 48 57) (digits_off b t n) ∙ all_none 48 57)
+    (digit_cases b)
+
+digits_first : (t : List ℕ) → 0 < length (leading_digits t) → get_or (leading_digits t) 0 0 ≡ get_or t 0 0
+digits_first [] l = absurd (omega arith)
+digits_first (b ∷ t) l =
+    ⊎_elim
+    (λ (d : (48 ≤ b) × (b ≤ 57)). ap (λ (u : List ℕ). get_or u 0 0) (digits_on b t d.0 d.1))
+    (λ (n : NoDigit b). absurd (omega (arith, ap length (digits_off b t n))))
+    (digit_cases b)
+
+-- No digit is at place i of the text, or it ends there.
+pub digits_stop : (t : List ℕ) (i : ℕ) → i < length t → NoDigit (get_or t i 0) → leading_digits (drop i t) ≡ []
+digits_stop t i h n = ap leading_digits (drop_here t i h) ∙ digits_off (get_or t i 0) (drop (i + 1) t) n
+
+pub digits_end : (t : List ℕ) (i : ℕ) → length t ≤ i → leading_digits (drop i t) ≡ []
+digits_end t i h = ap leading_digits (drop_none t i h)
+
+-- Of the digits that the text t starts with i are read, of value v.
+pub record Digits (t : List ℕ) (i v : ℕ) : Type 0 where
   pub within : i ≤ length t
-  pub few : i ≤ 10
   pub value : v < 10 ^ i
-  pub rest : all 48 57 (until b t) ≡ all 48 57 (until b (drop i t))
-  pub sum : value_from 0 (until b t) ≡ value_from v (until b (drop i t))
-  pub size : length (until b t) ≡ i + length (until b (drop i t))
+  pub sum : value_from 0 (leading_digits t) ≡ value_from v (leading_digits (drop i t))
+  pub size : length (leading_digits t) ≡ i + length (leading_digits (drop i t))
 
 -- One digit more.
 pow_more : (v d k : ℕ) → v < 10 ^ k → d < 10 → v * 10 + d < 10 ^ suc k
 pow_more v d k h g = rw pow-suc (omega arith)
 
-pub digits_none : (b : ℕ) (t : List ℕ) → Digits b t 0 0
-digits_none b t = record { within = omega arith; few = omega arith; value = omega arith; rest = refl; sum = refl; size = omega arith }
+pub digits_none : (t : List ℕ) → Digits t 0 0
+digits_none t = record { within = omega arith; value = omega arith; sum = refl; size = omega arith }
 
-module _ {b : ℕ} {t : List ℕ} {i v : ℕ} (z : Digits b t i v) where
+number_none : (t : List ℕ) → is_number (leading_digits t) ≡ false → None ≡ leading_number t
+unfolding leading_number
+number_none t e = rw e refl
+
+module _ {t : List ℕ} {i v : ℕ} (z : Digits t i v) where
   pub digits_value : (n : ℕ) → i ≤ n → v < 10 ^ n
   digits_value n h = omega (arith, z.value, pow-le-pow_right {n = 10} (omega arith) h)
 
-  -- The first byte.
-  first : 0 < i → get_or (until b t) 0 0 ≡ get_or t 0 0
-  unfolding until
-  first l = get_or-take (before b t) t 0 0 (omega (arith, z.size, length_until b t))
+  pub digits_zero : 1 < i → get_or t 0 0 ≡ 48 → None ≡ leading_number t
+  digits_zero l q =
+      number_none t (number_zero (leading_digits t) (omega (arith, z.size)) (digits_first t (omega (arith, z.size)) ∙ q))
 
-  pub digits_zero : 1 < i → get_or t 0 0 ≡ 48 → is_number (until b t) ≡ false
-  digits_zero l q = number_zero (until b t) (omega (arith, z.size)) (first (omega arith) ∙ q)
+  pub digits_more : i < length t → 48 ≤ get_or t i 0 → get_or t i 0 ≤ 57 → Digits t (i + 1) (v * 10 + (get_or t i 0 - 48))
+  unfolding value_from
+  digits_more h a c =
+      let e : i + 1 ≡ suc i = omega arith in
+      let here : leading_digits (drop i t) ≡ get_or t i 0 ∷ leading_digits (drop (i + 1) t) =
+      ap leading_digits (drop_here t i h) ∙ digits_on (get_or t i 0) (drop (i + 1) t) a c in
+      record {
+        within = omega arith;
+        value = rw e (pow_more v (get_or t i 0 - 48) i z.value (omega arith));
+        sum = z.sum ∙ ap (value_from v) here;
+        size = omega (arith, z.size, ap length here);
+      }
 
-  module _ (h : i < length t) (n : get_or t i 0 ≡ b → ⊥) where
-    -- The field at a byte that is not its end.
-    here : until b (drop i t) ≡ get_or t i 0 ∷ until b (drop (i + 1) t)
-    here = ap (until b) (drop_here t i h) ∙ until_pass b (get_or t i 0) (drop (i + 1) t) n
-
-    pub digits_low : get_or t i 0 < 48 → is_number (until b t) ≡ false
-    digits_low a = number_other (until b t) (z.rest ∙ ap (all 48 57) here ∙ all_low 48 57 _ _ a)
-
-    pub digits_high : 57 < get_or t i 0 → is_number (until b t) ≡ false
-    digits_high c = number_other (until b t) (z.rest ∙ ap (all 48 57) here ∙ all_high 48 57 _ _ (omega arith) c)
-
-    -- The field is longer than its digits so far.
-    pub digits_longer : i < length (until b t)
-    digits_longer = omega (arith, z.size, ap length here)
-
-    pub digits_long : 10 ≤ i → is_number (until b t) ≡ false
-    digits_long l = number_long (until b t) (omega (arith, digits_longer))
-
-    pub digits_more : (w : ℕ) → w ≡ v * 10 + (get_or t i 0 - 48) → 48 ≤ get_or t i 0 → get_or t i 0 ≤ 57 → i < 10 → Digits b t (i + 1) w
-    unfolding value_from
-    digits_more w q a c l =
-        let e : i + 1 ≡ suc i = omega arith in
-        record {
-          within = omega arith;
-          few = omega arith;
-          value = rw (q, e) (pow_more v (get_or t i 0 - 48) i z.value (omega arith));
-          rest = z.rest ∙ ap (all 48 57) here ∙ all_on 48 57 _ _ a c;
-          sum = z.sum ∙ ap (value_from v) here ∙ ap (λ (x : ℕ). value_from x (until b (drop (i + 1) t))) (sym q);
-          size = omega (arith, z.size, ap length here);
-        }
-
-  -- The field ends at place i.
-  module _ (e : until b (drop i t) ≡ []) where
-    pub digits_size : length (until b t) ≡ i
+  -- The digits end at place i.
+  module _ (e : leading_digits (drop i t) ≡ []) where
+    digits_size : length (leading_digits t) ≡ i
     digits_size = omega (arith, z.size, ap length e)
 
-    pub digits_empty : i ≡ 0 → is_number (until b t) ≡ false
-    digits_empty q = number_empty (until b t) (omega (arith, digits_size))
-
-    pub digits_form : 0 < i → (i ≤ 1) ⊎ (get_or t 0 0 ≡ 48 → ⊥) → is_number (until b t) ≡ true
-    digits_form l c =
-        let d : (length (until b t) ≤ 1) ⊎ (get_or (until b t) 0 0 ≡ 48 → ⊥) =
-        ⊎_elim (λ (h : i ≤ 1). inl (omega (arith, digits_size))) (λ (m : get_or t 0 0 ≡ 48 → ⊥). inr (λ q. m (sym (first l) ∙ q))) c in
-        number_digits (until b t) (omega (arith, digits_size)) (omega (arith, digits_size, z.few)) d
-        ∙ z.rest
-        ∙ ap (all 48 57) e
-        ∙ all_none 48 57
-
-    pub digits_sum : value_from 0 (until b t) ≡ v
+    digits_sum : value_from 0 (leading_digits t) ≡ v
     unfolding value_from
     digits_sum = z.sum ∙ ap (value_from v) e
 
--- A byte b is at place i, or the line's end.
-pub ends_line : (b : ℕ) (t : List ℕ) (i : ℕ) → length t ≤ i → until b (drop i t) ≡ []
-ends_line b t i h = ap (until b) (drop_none t i h) ∙ until_none b
+    pub digits_empty : i ≡ 0 → None ≡ leading_number t
+    digits_empty q = number_none t (number_empty (leading_digits t) (omega (arith, digits_size)))
 
-pub ends_field : (b : ℕ) (t : List ℕ) (i : ℕ) → i < length t → get_or t i 0 ≡ b → until b (drop i t) ≡ []
-ends_field b t i h e = ap (until b) (drop_here t i h) ∙ until_hit b (get_or t i 0) (drop (i + 1) t) e
+    pub digits_found : 0 < i → i ≤ 10 → (i ≤ 1) ⊎ (get_or t 0 0 ≡ 48 → ⊥) → Some (v, i) ≡ leading_number t
+    unfolding leading_number
+    digits_found l k c =
+        let d : (length (leading_digits t) ≤ 1) ⊎ (get_or (leading_digits t) 0 0 ≡ 48 → ⊥) =
+        ⊎_elim
+        (λ (h : i ≤ 1). inl (omega (arith, digits_size)))
+        (λ (m : get_or t 0 0 ≡ 48 → ⊥). inr (λ q. m (sym (digits_first t (omega (arith, digits_size))) ∙ q)))
+        c in
+        let f : is_number (leading_digits t) ≡ true =
+        number_digits (leading_digits t) (omega (arith, digits_size)) (omega (arith, digits_size)) d ∙ digits_all t in
+        rw (f, digits_sum, digits_size) refl
 
--- ---- a field
+-- ---- the field that the digits fill
 
-pub next_other : (t : List ℕ) → is_number (until 9 t) ≡ false → None ≡ next_number t
+pub number_all : (t : List ℕ) → is_number t ≡ true → all 48 57 t ≡ true
+unfolding is_number
+number_all t e = (cond_else (leading_zero t) _ (cond_else (ltb 10 (length t)) _ (cond_else (eqb (length t) 0) _ e).1).1).1
+
+pub number_size : (t : List ℕ) → is_number t ≡ true → length t ≤ 10
+unfolding is_number
+number_size t e = ltb-false _ _ (cond_else (ltb 10 (length t)) _ (cond_else (eqb (length t) 0) _ e).1).0
+
+-- A field ends at a byte below the digits, or with the text.
+module _ (stop : ℕ) (low : stop < 48) where
+  digits_field : (n : ℕ) (t : List ℕ) → all 48 57 (until stop t) ≡ true → length (until stop t) ≤ n → leading_digits (take n t) ≡ until stop t
+  digits_field zero [] a l = sym (until_none stop)
+  digits_field (suc n) [] a l = sym (until_none stop)
+  digits_field zero (b ∷ t) a l =
+      elim (ℕ_discrete b stop) [
+        | yes e ↦ sym (until_hit stop b t e)
+        | no m ↦ absurd (omega (arith, ap length (until_pass stop b t m)))
+      ]
+  digits_field (suc n) (b ∷ t) a l =
+      elim (ℕ_discrete b stop) [
+        | yes e ↦ digits_off b (take n t) (inl (omega arith)) ∙ sym (until_hit stop b t e)
+        | no m ↦
+            let u = until_pass stop b t m in
+            let d = all_first 48 57 b (until stop t) (ap (all 48 57) (sym u) ∙ a) in
+            digits_on b (take n t) d.0 d.1 ∙ ap (λ (w : List ℕ). b ∷ w) (digits_field n t d.2 (omega (arith, ap length u))) ∙ sym u
+      ]
+
+  field_digits : (n : ℕ) (t : List ℕ) →
+      (let k : ℕ = length (leading_digits (take n t)) in (length t ≤ k) ⊎ (get_or t k 0 ≡ stop)) → until stop t ≡ leading_digits (take n t)
+  field_digits zero [] c = until_none stop
+  field_digits (suc n) [] c = until_none stop
+  field_digits zero (b ∷ t) c = ⊎_elim (λ (l : suc (length t) ≤ 0). absurd (omega arith)) (λ (e : b ≡ stop). until_hit stop b t e) c
+  field_digits (suc n) (b ∷ t) c =
+      ⊎_elim
+      (λ (d : (48 ≤ b) × (b ≤ 57)).
+      let q = digits_on b (take n t) d.0 d.1 in
+      let w : (suc (length t) ≤ suc (length (leading_digits (take n t)))) ⊎ (get_or t (length (leading_digits (take n t))) 0 ≡ stop) = rw q at c in
+      let m : (length t ≤ length (leading_digits (take n t))) ⊎ (get_or t (length (leading_digits (take n t))) 0 ≡ stop) =
+      ⊎_elim (λ (l : suc (length t) ≤ suc (length (leading_digits (take n t)))). inl (omega arith)) (λ (e : get_or t (length (leading_digits (take n t))) 0 ≡ stop). inr e) w in
+      until_pass stop b t (λ e. omega arith) ∙ ap (λ (u : List ℕ). b ∷ u) (field_digits n t m) ∙ sym q)
+      (λ (m : NoDigit b).
+      let q = digits_off b (take n t) m in
+      let d : (suc (length t) ≤ 0) ⊎ (b ≡ stop) = rw q at c in
+      ⊎_elim (λ (l : suc (length t) ≤ 0). absurd (omega arith)) (λ (e : b ≡ stop). until_hit stop b t e) d ∙ sym q)
+      (digit_cases b)
+
+  module _ (n : ℕ) (t : List ℕ) where
+    -- Where the first n bytes start with no number, no field of n digits is a number.
+    pub field_other : None ≡ leading_number (take n t) → is_number (until stop t) ≡ true → length (until stop t) ≤ n → ⊥
+    unfolding leading_number
+    field_other e a l =
+        let q = digits_field n t (number_all _ a) l in
+        let w = clash (sym a ∙ sym (ap is_number q) ∙ none_test _ _ e) in
+        omega arith
+
+    module _ (v k : ℕ) (e : Some (v, k) ≡ leading_number (take n t)) where
+      found : (is_number (leading_digits (take n t)) ≡ true) × (value_from 0 (leading_digits (take n t)) ≡ v) × (length (leading_digits (take n t)) ≡ k)
+      unfolding leading_number
+      found = let h = cond_some _ _ _ (sym e) in (h.0, ap (λ (p : ℕ × ℕ). p.0) h.1, ap (λ (p : ℕ × ℕ). p.1) h.1)
+
+      pub found_few : k ≤ n
+      found_few = omega (arith, found.2, length-prefix_len is_ascii_digit (take n t), prefix_len-le-length is_ascii_digit (take n t), length-take n t)
+
+      -- The byte behind the digits does not end the field.
+      pub field_open : k < length t → (get_or t k 0 ≡ stop → ⊥) → is_number (until stop t) ≡ true → length (until stop t) ≤ n → ⊥
+      field_open h m a l =
+          let q = digits_field n t (number_all _ a) l in
+          let s : k ≡ before stop t = omega (arith, found.2, ap length q, length_until stop t) in
+          m (ap (λ (i : ℕ). get_or t i 0) s ∙ before_byte stop t (omega arith))
+
+      -- The digits are the field.
+      pub field_found : (length t ≤ k) ⊎ (get_or t k 0 ≡ stop) → (is_number (until stop t) ≡ true) × (value_from 0 (until stop t) ≡ v) × (length (until stop t) ≡ k)
+      field_found c = let q = field_digits n t (rw (← found.2) at c) in rw q found
+
+-- ---- the next field
+
+pub next_other : (t : List ℕ) → (is_number (until 9 t) ≡ true → ⊥) → None ≡ next_number t
 unfolding next_number
-next_other t e = rw e refl
+next_other t n = rw (not_so _ n) refl
 
-pub next_found : {t : List ℕ} {i v : ℕ} → Digits 9 t i v → until 9 (drop i t) ≡ [] → 0 < i →
-    (i ≤ 1) ⊎ (get_or t 0 0 ≡ 48 → ⊥) → (rest : List ℕ) → rest ≡ drop (i + 1) t → Some (v, rest) ≡ next_number t
+pub next_found : (t : List ℕ) (v k : ℕ) → (is_number (until 9 t) ≡ true) × (value_from 0 (until 9 t) ≡ v) × (length (until 9 t) ≡ k) →
+    (rest : List ℕ) → rest ≡ drop (k + 1) t → Some (v, rest) ≡ next_number t
 unfolding next_number beyond
-next_found {t} {i} z e l c rest r =
-    let p : i + 1 ≡ suc (before 9 t) = omega (arith, digits_size z e, length_until 9 t) in
-    rw (digits_form z e l c, digits_sum z e, r, p) refl
+next_found t v k h rest r =
+    let p : k + 1 ≡ suc (before 9 t) = omega (arith, h.2, length_until 9 t) in
+    rw (h.0, h.1, r, p) refl

@@ -1,8 +1,8 @@
 #![tactic(auto)]
 
-ghost use Rattle.std.specs.Prelude.{◌≡◌};
+ghost use Rattle.std.specs.Prelude.{◌≡◌, ◌≤◌, length};
 ghost use Rattle.std.specs.Option.{option_map};
-ghost use Rattle.numbers.specs.Number.{next_number};
+ghost use Rattle.numbers.specs.Number.{leading_number, next_number};
 
 use text::TAB;
 
@@ -15,18 +15,16 @@ pub struct Number<'a> {
     pub rest: &'a [u8],
 }
 
-// The number in the next field of the rest of a line; none where the field is of another form.
-pub fn read_number(t: &[u8]) -> Option<Number<'_>>
-    ensures { option_map (λ n. (n.value, n.rest.now)) result ≡ next_number t.now }
+// The number that the text starts with, and how many digits it has; none where its digits are no number.
+pub fn leading_number(t: &[u8]) -> Option<(u64, usize)>
+    requires { length t.now ≤ 10 }
+    ensures { result ≡ leading_number t.now }
 {
     let mut value = 0;
     let mut digits = 0; // no `enumerate`: the count is needed behind the loop, where its place is gone
     for &b in t {
-        if b == TAB {
+        if !b.is_ascii_digit() {
             break;
-        }
-        if !b.is_ascii_digit() || DIGITS_MAX <= digits {
-            return None;
         }
         value = value * 10 + (b - b'0') as u64;
         digits += 1;
@@ -35,6 +33,20 @@ pub fn read_number(t: &[u8]) -> Option<Number<'_>>
         return None;
     }
     if 1 < digits && t[0] == b'0' {
+        return None;
+    }
+    Some((value, digits))
+}
+
+// The number in the next field of the rest of a line; none where the field is of another form. Not copied into each reader: the archive's
+// code has a bound.
+#[inline(never)]
+pub fn read_number(t: &[u8]) -> Option<Number<'_>>
+    ensures { option_map (λ n. (n.value, n.rest.now)) result ≡ next_number t.now }
+{
+    let (value, digits) = leading_number(&t[..t.len().min(DIGITS_MAX)])?;
+    // An 11th digit is such a byte too.
+    if digits < t.len() && t[digits] != TAB {
         return None;
     }
     Some(Number {

@@ -11,7 +11,7 @@ use open_ways::Layer;
 use store::LEVELS_MAX;
 use ways::take_span;
 
-// Works out words of level p before, from word x on, span by span.
+// Works out words of level p before, from word x on, span by span. The level is a plain number, as each call has another.
 pub fn relax_level(table: &[u32], words: &mut [u32], layer: &Layer, p: usize, x: usize)
     requires { record {
       job : Job table.now layer.now x;
@@ -25,8 +25,8 @@ pub fn relax_level(table: &[u32], words: &mut [u32], layer: &Layer, p: usize, x:
     let mut y = x;
     // A span is as long as its ways let it be, so that no range has its steps.
     while y < end {
-        let s = layer.find_ways(p, y, end, &mut ways);
-        take_span(table, &mut words[y - x..s.to - x], &ways[..s.count]);
-        y = s.to;
+        let span = layer.find_ways(p, y, end, &mut ways);
+        take_span(table, &mut words[y - x..span.to - x], span.ways);
+        y = span.to;
     }
 }

@@ -1,12 +1,17 @@
 -- Which way stands in a place, what it rests on, and that fewer words rest on the same.
 -- Assumes nothing.
-use mathlib.Core.Path.{◌≡◌}
+use mathlib.Core.Path.{◌≡◌, sym, ap, ◌∙◌}
 use mathlib.Core.List.{List}
 use Prim.Native.Nat.{ℕ, ◌+◌, ◌≤◌, ◌<◌}
 use native.Mathlib.Decide.{dec_lt}
 use native.Mathlib.Omega.{arith}
+use denote.Ref.{Bor}
 use lib.ListN.{length, get_or}
 use borrow.Author.Tests.{lt-ltb, le-ltb}
+use Rattle.std.specs.declared.option.Option.{Option}
+use Rattle.std.specs.declared.option.Option.TheVariants.{None, Some}
+use Rattle.std.specs.Option.{MatchOption, unwrap_or}
+use Rattle.std.specs.List.{HoldsAt}
 use Rattle.store.specs.Store.{levels_max}
 use Rattle.word.specs.Word.{far, job_most}
 use Rattle.one_way.specs.declared.Way.{Way}
@@ -27,6 +32,11 @@ slot_lt count k h =
       | yes l ↦ rw (slot_own count k l) l
       | no l ↦ rw (slot_first count k (omega arith)) h
     ]
+
+-- The way that is read in place k, or else the first way.
+pub read_way : (ways : List Way) (k : ℕ) (r : Option (Bor Way)) (first w : Bor Way) → MatchOption r (length ways ≤ k) (λ x. (k < length ways) × HoldsAt (λ y. x.now ≡ y) ways k) → first.now ≡ way_at ways 0 → w ≡ unwrap_or r first → w.now ≡ way_at ways (slot_of (length ways) k)
+read_way ways k (Some x) first w h g e = ap (λ (b : Bor Way). b.now) e ∙ h.1 _ ∙ ap (way_at ways) (sym (slot_own (length ways) k h.0))
+read_way ways k None first w h g e = ap (λ (b : Bor Way). b.now) e ∙ g ∙ ap (way_at ways) (sym (slot_first (length ways) k h))
 
 -- Where the way in place k leads word q, and what it takes.
 pub record Place (table : List ℕ) (ways : List Way) (w q : ℕ) : Type 0 where

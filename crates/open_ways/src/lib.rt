@@ -12,7 +12,7 @@ pub struct Move {
     pub time: u32,
 }
 
-// A move that is lawful for no word.
+// A move that is lawful for no word: a reach of 0 and no Option, which each loop over moves would open.
 pub const NO_MOVE: Move = Move {
     shift: 0,
     reach: 0,

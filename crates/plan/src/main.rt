@@ -8,8 +8,8 @@ use plan_text::TEXT_LEAST;
 use std::io;
 use std::io::{Read, Stdin};
 
-// Reads once, to place n of the buffer; 0 bytes are the input's end. Standard input fills what is left of a buffer, as there is no
-// heap: so buffer and place.
+// Reads once, to place n of the buffer; 0 bytes are the input's end. Apart from the loop and with the whole buffer, so that a clause says
+// that what came before stays: of `&mut sheet[n..]` alone none could say it.
 fn read_more(stdin: &mut Stdin, sheet: &mut [u8], n: usize) -> io::Result<usize>
     requires { n ≤ length sheet.old }
     ensures { More sheet.old sheet.new n result }
@@ -18,7 +18,8 @@ fn read_more(stdin: &mut Stdin, sheet: &mut [u8], n: usize) -> io::Result<usize>
 }
 
 // Reads until the input ends or the buffer is full: a pipe hands its bytes over in pieces, as long as it likes, so that no range has
-// the steps of the loop. Not as `read_input` of `cases`: a failed read is told. Of the library, `read_to_end` wants a heap.
+// the steps of the loop. Not as `read_input` of `cases`: a failed read is told. The library's `read_to_end` would ask for a heap, which
+// nothing here has.
 fn read_sheet(stdin: &mut Stdin, sheet: &mut [u8]) -> io::Result<usize>
     ensures { Within 0 result sheet.new }
 {

@@ -21,7 +21,8 @@ fn put_line_end(writer: &mut Writer, a: u64, b: u64, c: u64)
     writer.byte(b'\n');
 }
 
-// The plan's P line.
+// The plan's P line. Figures come as plain numbers here and below: of a struct, a caller would fill three of a run's figures into another
+// one, which is no plainer.
 pub fn put_plan_line(writer: &mut Writer, jobs: u64, time: u64, energy: u64, temperature: u64)
     requires { (jobs < number_end) × (time < number_end) × (energy < number_end) × (temperature < number_end) × Room writer.old plan_line_max }
     ensures wrote { Writes writer.old writer.new (plan_line jobs time energy temperature) }

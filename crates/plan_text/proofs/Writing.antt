@@ -8,20 +8,19 @@ use native.Mathlib.Numerals.{add-one}
 use native.Mathlib.Omega.{arith}
 use lib.ListN.{length, get_or, take, drop, drop_of_length-le}
 use lib.Seq.{drop-cons, get_or-take, length-take-le}
-use Rattle.std.specs.Prelude.{Ok}
-use Rattle.frame.specs.Sheet.{Sheet, Ranges}
+use Rattle.frame.specs.Sheet.{Sheet}
 use Rattle.frame.specs.Run.{State, start, step, exact_run}
 use Rattle.frame.specs.Demands.{figures}
 use Rattle.store.specs.declared.Store.{Store}
-use Rattle.store.specs.declared.Head.{Head}
+use Rattle.store.specs.declared.sheet.ReadSheet.{ReadSheet}
 use Rattle.store.specs.Store.{jobs_max, levels_max}
 use Rattle.store.specs.Figures.{sheet_of}
+use Rattle.store.specs.Sheet.{sheet_read}
 use Rattle.run.specs.Run.{state_of}
 use Rattle.run.specs.declared.Run.{Run}
 use Rattle.run.proofs.Small.{Small, small_start, small_step}
 use Rattle.body.specs.Body.{job_lines, lines_before}
 use Rattle.sheet.specs.Reading.{SheetRead}
-use Rattle.sheet.proofs.Ranges.{reading_ranges}
 use Rattle.step.specs.Store.{Stored, Rests}
 use Rattle.step.proofs.Store.{rests}
 use Rattle.step.proofs.Levels.{step_level}
@@ -44,72 +43,68 @@ unfolding job_text_from
 one_line name s i a b j js e = rw (add-one, e) refl
 
 -- The Q lines of i jobs are written.
-pub record Writing (t : List ℕ) (h : Head) (store : Store) (levels : List ℕ) (old new : Writer) (run : Run) (left : List ℕ) (i : ℕ) : Type 0 where
-  pub most : i ≤ h.jobs
+pub record Writing (t : List ℕ) (p : ReadSheet) (levels : List ℕ) (old new : Writer) (run : Run) (left : List ℕ) (i : ℕ) : Type 0 where
+  pub most : i ≤ p.head.jobs
   pub long : length new.part.now ≡ length old.part.now
   pub small : Small i (state_of run)
   pub level : run.level < levels_max
-  pub reached : left ≡ skip (lines_before h.levels i) t
+  pub reached : left ≡ skip (lines_before p.head.levels i) t
   pub far : new.at ≤ old.at + i * job_line_max
-  pub rest : (z : Writer) → Writes new z (job_text_from (name_of t) (sheet_of h store) i (state_of run) (drop i (take h.jobs levels))) →
-      Writes old z (job_text_from (name_of t) (sheet_of h store) 0 (start (sheet_of h store)) (take h.jobs levels))
+  pub rest : (z : Writer) → Writes new z (job_text_from (name_of t) (sheet_read p) i (state_of run) (drop i (take p.head.jobs levels))) →
+      Writes old z (job_text_from (name_of t) (sheet_read p) 0 (start (sheet_read p)) (take p.head.jobs levels))
 
-module _ {t : List ℕ} {h : Head} {store : Store} {levels : List ℕ} (w : Handed t h store levels) where
-  -- The sheet that was read keeps its ranges.
-  pub ranges : Ranges (sheet_of h store)
-  ranges = reading_ranges t (Ok h) store w.read h refl
-
-  pub jobs_most : h.jobs ≤ jobs_max
+module _ {t : List ℕ} {p : ReadSheet} {levels : List ℕ} (w : Handed t p levels) where
+  pub jobs_most : p.head.jobs ≤ jobs_max
   unfolding sheet_of
-  jobs_most = ranges.jobs.high
+  jobs_most = p.ranges.jobs.high
 
-  pub levels_most : h.levels ≤ levels_max
+  pub levels_most : p.head.levels ≤ levels_max
   unfolding sheet_of
-  levels_most = ranges.levels.high
+  levels_most = p.ranges.levels.high
 
   -- The levels of the sheet's jobs.
   module _ {i : ℕ} where
-    pub job_here : i < length (take h.jobs levels) → i < h.jobs
-    job_here k = omega (arith, length-take-le h.jobs levels w.each)
+    pub job_here : i < length (take p.head.jobs levels) → i < p.head.jobs
+    job_here k = omega (arith, length-take-le p.head.jobs levels w.each)
 
-    pub level_here : i < h.jobs → get_or (take h.jobs levels) i 0 ≡ get_or levels i 0
-    level_here k = get_or-take h.jobs levels i 0 k
+    pub level_here : i < p.head.jobs → get_or (take p.head.jobs levels) i 0 ≡ get_or levels i 0
+    level_here k = get_or-take p.head.jobs levels i 0 k
 
-  pub writing_start : (old : Writer) (run : Run) (left : List ℕ) (n : ℕ) → state_of run ≡ start (sheet_of h store) → n ≡ lines_before h.levels 0 →
-      left ≡ skip n t → Writing t h store levels old old run left 0
+  pub writing_start : (old : Writer) (run : Run) (left : List ℕ) (n : ℕ) → state_of run ≡ start (sheet_read p) → n ≡ lines_before p.head.levels 0 →
+      left ≡ skip n t → Writing t p levels old old run left 0
   unfolding sheet_of
   writing_start old run left n e m d =
       record {
         most = omega arith;
         long = refl;
-        small = rw e (small_start ranges);
-        level = omega (arith, ap (λ (a : State). a.level) e, ranges.start_level, ranges.levels.high);
+        small = rw e (small_start p.ranges);
+        level = omega (arith, ap (λ (a : State). a.level) e, p.ranges.start_level, p.ranges.levels.high);
         reached = d ∙ ap (λ (x : ℕ). skip x t) m;
         far = omega arith;
         rest = λ z u. rw (sym e) u;
       }
 
-  module _ {old new : Writer} {run : Run} {left : List ℕ} {i : ℕ} (g : Writing t h store levels old new run left i) where
-    module _ (l : i < h.jobs) where
+  module _ {old new : Writer} {run : Run} {left : List ℕ} {i : ℕ} (g : Writing t p levels old new run left i) where
+    module _ (l : i < p.head.jobs) where
       -- The next step's own needs.
-      pub writing_rests : {words : Store} {steady : List ℕ} → Stored (sheet_of h store) words steady → Rests run words steady (get_or levels i 0)
+      pub writing_rests : {words : Store} {steady : List ℕ} → Stored (sheet_read p) words steady → Rests run words steady (get_or levels i 0)
       unfolding sheet_of
       writing_rests v =
-          let m = ranges.jobs.high in
-          rests v run _ ranges (omega (arith, g.small.done, m)) g.level (w.below i l) (omega (arith, g.small.time, m)) (omega (arith, g.small.energy, m)) (omega (arith, g.small.temperature))
+          let m = p.ranges.jobs.high in
+          rests v run _ p.ranges (omega (arith, g.small.done, m)) g.level (w.below i l) (omega (arith, g.small.time, m)) (omega (arith, g.small.energy, m)) (omega (arith, g.small.temperature))
 
       -- The line that is reached has the job's name.
       pub name_here : next_name left ≡ name_of t i
       unfolding name_at
       name_here = ap next_name g.reached ∙ sym (name_some t i _ w.read l)
 
-      module _ (b : Run) (x : state_of b ≡ step (sheet_of h store) (state_of run) (get_or levels i 0)) where
+      module _ (b : Run) (x : state_of b ≡ step (sheet_read p) (state_of run) (get_or levels i 0)) where
         -- The job has a Q line.
-        pub writing_ended : Room old (h.jobs * job_line_max) → Ended left new b
+        pub writing_ended : Room old (p.head.jobs * job_line_max) → Ended left new b
         unfolding sheet_of
         writing_ended room =
-            let m = ranges.jobs.high in
-            let v : Small (suc i) (state_of b) = rw x (small_step ranges (get_or levels i 0) g.small) in
+            let m = p.ranges.jobs.high in
+            let v : Small (suc i) (state_of b) = rw x (small_step p.ranges (get_or levels i 0) g.small) in
             let e = w.read in
             let n = job_name_short t i (ap (λ (r : SheetRead). r.refusal) (sym e)) (omega (arith, ap (λ (r : SheetRead). r.head.jobs) e)) in
             record {
@@ -122,32 +117,32 @@ module _ {t : List ℕ} {h : Head} {store : Store} {levels : List ℕ} (w : Hand
 
         pub writing_next : (next : Writer) (left' : List ℕ) (n : ℕ) →
             Writes new next (job_line (next_name left) b.level b.time b.energy b.temperature) → next.at ≤ new.at + job_line_max →
-            n ≡ job_lines h.levels → left' ≡ skip n left → Writing t h store levels old next b left' (i + 1)
+            n ≡ job_lines p.head.levels → left' ≡ skip n left → Writing t p levels old next b left' (i + 1)
         writing_next next left' n u f k d =
             let j = get_or levels i 0 in
-            let js = take h.jobs levels in
-            let s = sheet_of h store in
+            let js = take p.head.jobs levels in
+            let s = sheet_read p in
             let v : b.level ≡ j = ap (λ (a : State). a.level) x ∙ step_level s (state_of run) j in
-            let o : lines_before h.levels i + n ≡ lines_before h.levels (i + 1) = omega (arith, add-mul i 1 (job_lines h.levels), one-mul (job_lines h.levels)) in
+            let o : lines_before p.head.levels i + n ≡ lines_before p.head.levels (i + 1) = omega (arith, add-mul i 1 (job_lines p.head.levels), one-mul (job_lines p.head.levels)) in
             let c : drop i js ≡ j ∷ drop (suc i) js =
-            drop-cons js i 0 (omega (arith, length-take-le h.jobs levels w.each)) ∙ ap (λ (z : ℕ). z ∷ drop (suc i) js) (get_or-take h.jobs levels i 0 l) in
+            drop-cons js i 0 (omega (arith, length-take-le p.head.jobs levels w.each)) ∙ ap (λ (z : ℕ). z ∷ drop (suc i) js) (get_or-take p.head.jobs levels i 0 l) in
             record {
               most = omega arith;
               long = (moved u).long ∙ g.long;
-              small = rw (add-one, x) (small_step ranges j g.small);
+              small = rw (add-one, x) (small_step p.ranges j g.small);
               level = omega (arith, v, w.below i l);
-              reached = d ∙ ap (skip n) g.reached ∙ sym (skip_add (lines_before h.levels i) n t) ∙ ap (λ (z : ℕ). skip z t) o;
+              reached = d ∙ ap (skip n) g.reached ∙ sym (skip_add (lines_before p.head.levels i) n t) ∙ ap (λ (z : ℕ). skip z t) o;
               far = omega (arith, g.far, f);
               rest = λ z r. g.rest z (rw (c, one_line (name_of t) s i (state_of run) (state_of b) j (drop (suc i) js) x, ← name_here, ← v, ← add-one i) (writes_both u r));
             }
 
-    pub writing_end : h.jobs ≤ i → Room old (h.jobs * job_line_max) →
-        Writes old new (job_text_from (name_of t) (sheet_of h store) 0 (start (sheet_of h store)) (take h.jobs levels)) × (new.at ≤ old.at + h.jobs * job_line_max)
+    pub writing_end : p.head.jobs ≤ i → Room old (p.head.jobs * job_line_max) →
+        Writes old new (job_text_from (name_of t) (sheet_read p) 0 (start (sheet_read p)) (take p.head.jobs levels)) × (new.at ≤ old.at + p.head.jobs * job_line_max)
     unfolding job_text_from
     writing_end l room =
-        let f : new.at ≤ old.at + h.jobs * job_line_max = omega (arith, g.far, g.most) in
-        let d : length (take h.jobs levels) ≤ i = omega (arith, length-take-le h.jobs levels w.each) in
-        (g.rest new (rw (drop_of_length-le (take h.jobs levels) {i = i} d) (record { same_part = refl; wrote = wrote_none _ _ (omega (arith, g.long)) })), f)
+        let f : new.at ≤ old.at + p.head.jobs * job_line_max = omega (arith, g.far, g.most) in
+        let d : length (take p.head.jobs levels) ≤ i = omega (arith, length-take-le p.head.jobs levels w.each) in
+        (g.rest new (rw (drop_of_length-le (take p.head.jobs levels) {i = i} d) (record { same_part = refl; wrote = wrote_none _ _ (omega (arith, g.long)) })), f)
 
 -- A name that is handed over is the one on the line.
 pub named_line : (old new : Writer) (name other : List ℕ) (level time energy temperature : ℕ) → name ≡ other →

@@ -6,7 +6,7 @@ use mathlib.Core.List.{List}
 use Prim.Native.Nat.{ℕ, suc, ◌+◌}
 use native.Mathlib.Omega.{arith}
 use lib.ListN.{length, drop}
-use Rattle.std.specs.Prelude.{Some, None, Result, Ok, Err}
+use Rattle.std.specs.Prelude.{Some, None, Result, Ok, Err, MatchResult, IsErrAnd}
 use Rattle.text.specs.Text.{before, until, beyond, ahead, next_line}
 use Rattle.text.specs.declared.Line.{Line}
 use Rattle.text.proofs.Text.{line_some, line_none}
@@ -41,6 +41,21 @@ pub next_taken : {A : Type 0} (read : List ℕ → Result A Fault) (r : Rest) (n
     n ≡ before 10 r.text + 1 → next_by read r ≡ Ok (a, record { line = r.line + 1; text = drop n r.text })
 unfolding beyond
 next_taken read r n a e q z = let y : suc (before 10 r.text) ≡ n = omega (arith, z) in rw (← y) (next_said read r e a q)
+
+-- ---- a call whose fault is turned into that of its line
+
+module _ {A : Type 0} (r : Rest) where
+  -- What is made of what was said of the line.
+  abbrev pub Turned : Result A Fault → Result A LineFault → Type 0
+  Turned said made = MatchResult said (λ a. made ≡ Ok a) (λ f. IsErrAnd made (λ e. e ≡ fault_of r f))
+
+  pub said_stays : (said : Result A Fault) (a : A) → Turned said (Ok a) → said ≡ Ok a
+  said_stays (Ok x) a w = let q : a ≡ x = cc in rw q refl
+  said_stays (Err f) a w = absurd w
+
+  pub fault_turned : (said : Result A Fault) (e : LineFault) → Turned said (Err e) → (f : Fault) × (said ≡ Err f) × (e ≡ fault_of r f)
+  fault_turned (Ok x) e w = absurd cc
+  fault_turned (Err f) e w = (f, refl, w)
 
 -- ---- a call of `read`
 

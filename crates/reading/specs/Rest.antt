@@ -40,6 +40,10 @@ rest_of p = record { line = p.line; text = p.rest.now }
 abbrev pub read_to : {A : Type 0} → Result (A × Place) LineFault → Result (A × Rest) LineFault
 read_to r = result_map_both (λ x. (x.0, rest_of x.1)) (λ f. f) r
 
+-- What is left where nothing else was read.
+abbrev pub rest_read : Result Place LineFault → Result Rest LineFault
+rest_read r = result_map_both rest_of (λ f. f) r
+
 -- The next line at a place was read by a call that gives what `post` says: the line is missing, or the call was made for it.
 unfoldable pub ReadBy : {A : Type 0} → (Line → Result A Fault → Type 0) → Place → Result (A × Place) LineFault → Type 0
 ReadBy {A} post p r =

@@ -36,8 +36,7 @@ impl<'a> Place<'a> {
         }
     }
 
-    // What the next line says by what reads a line, and the place behind it. A `match`: `map_err` and `?` would hand the place to a closure
-    // for its line alone.
+    // What the next line says by what reads a line, and the place behind it.
     pub fn read<T, F: FnOnce(Line<'a>) -> Result<T, Fault>>(
         self,
         f: F,
@@ -45,18 +44,10 @@ impl<'a> Place<'a> {
         requires { F.IsAlwaysCallable f }
         ensures { ReadBy (F.post f) self.entry result }
     {
-        let Some(line) = text::next_line(self.rest) else {
-            return Err(LineFault {
-                line: self.line,
-                fault: Fault::Shape,
-            });
-        };
-        match f(line) {
-            Ok(said) => Ok((said, self.behind(line.bytes.len() + 1))),
-            Err(fault) => Err(LineFault {
-                line: self.line,
-                fault,
-            }),
-        }
+        let at = self.line;
+        let fault_here = |fault| LineFault { line: at, fault };
+        let line = text::next_line(self.rest).ok_or(fault_here(Fault::Shape))?;
+        let said = f(line).map_err(fault_here)?;
+        Ok((said, self.behind(line.bytes.len() + 1)))
     }
 }

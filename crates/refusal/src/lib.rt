@@ -51,7 +51,7 @@ impl Refusal {
         }
     }
 
-    // The line that is returned with it.
+    // The line that is returned with it: a number, and 0 where there is none, as every reply has it ("0, 0").
     pub fn line(self) -> usize
         ensures { result ≡ line_of self }
     {
@@ -65,7 +65,7 @@ impl Refusal {
         }
     }
 
-    // The field that is returned with it.
+    // The field that is returned with it, likewise.
     pub fn field(self) -> usize
         ensures { result ≡ field_of self }
     {

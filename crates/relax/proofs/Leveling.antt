@@ -17,7 +17,7 @@ use Rattle.spans.specs.Spans.{Spans}
 use Rattle.open_ways.specs.declared.layer.Layer.{Layer}
 use Rattle.open_ways.specs.Moves.{move_at, relaxed_at}
 use Rattle.open_ways.specs.Layer.{relaxed, relaxed_by}
-use Rattle.open_ways.proofs.Moves.{move_within, relaxed_on, relaxed_off}
+use Rattle.open_ways.proofs.Moves.{relaxed_on, relaxed_off}
 use Rattle.relax.specs.Levels.{Levels}
 
 -- ---- a run of words
@@ -81,18 +81,18 @@ module _ (layer : Layer) {x : ℕ} {old mid : List ℕ} {f : ℕ → ℕ → ℕ
   unfolding relaxed_at
   relaxed_kept p hp zero y h l = refl
   relaxed_kept p hp (suc k) y h l =
-      let m = move_at layer.moves.now (p * layer.levels + k) in
+      let m = move_at layer.moves.now p k in
       let same = relaxed_kept p hp k y (omega arith) l in
       elim (dec_lt y m.reach) [
         | yes g ↦
-            let z = kept k (y + m.shift) (omega arith) (omega arith) (omega (arith, move_within layer.moving p k hp (omega arith))) in
-            relaxed_on layer.moves.now mid layer.levels layer.cells layer.at p k y g
+            let z = kept k (y + m.shift) (omega arith) (omega arith) (omega (arith, layer.moving.within p k hp (omega arith))) in
+            relaxed_on layer.moves.now mid layer.cells layer.at p k y g
             ∙ ap₂ (λ (a b : ℕ). min a (m.time + b)) same z
-            ∙ sym (relaxed_on layer.moves.now old layer.levels layer.cells layer.at p k y g)
+            ∙ sym (relaxed_on layer.moves.now old layer.cells layer.at p k y g)
         | no g ↦
-            relaxed_off layer.moves.now mid layer.levels layer.cells layer.at p k y (omega arith)
+            relaxed_off layer.moves.now mid layer.cells layer.at p k y (omega arith)
             ∙ same
-            ∙ sym (relaxed_off layer.moves.now old layer.levels layer.cells layer.at p k y (omega arith))
+            ∙ sym (relaxed_off layer.moves.now old layer.cells layer.at p k y (omega arith))
       ]
 
   -- The words from x to x + n after those before x.

@@ -17,7 +17,7 @@ use Rattle.store.specs.declared.Store.{Store}
 use Rattle.store.specs.Store.{jobs_max, levels_max}
 use Rattle.store.specs.Figures.{sheet_of}
 use Rattle.refusal.specs.declared.Refusal.{Refusal}
-use Rattle.refusal.specs.Code.{number_of, line_of, field_of}
+use Rattle.refusal.specs.Code.{number_of}
 use Rattle.refusal.proofs.Apart.{number_bounds, accepted_refused}
 use Rattle.std.specs.Prelude.{None, Some, Ok}
 use Rattle.store.specs.declared.Head.{Head}
@@ -27,7 +27,7 @@ use Rattle.sheet.proofs.Ranges.{read_ranges}
 use Rattle.reply.specs.Reply.{Reply}
 use Rattle.reply.specs.Answer.{Answer, refused, found, Answers}
 use Rattle.solve.proofs.Finding.{on_levels}
-use Rattle.demands.specs.Order.{answer_by, answer_to, answer_of}
+use Rattle.demands.specs.Order.{answer_by, answer_of}
 use Rattle.demands.proofs.Ways.{answer_ways}
 use Rattle.plan_text.specs.Text.{text_least, plan_text}
 use Rattle.writer.specs.Written.{Wrote}
@@ -53,7 +53,7 @@ whole {old} {xs} w = let z : 0 + length xs ≡ length xs = omega arith in w.byte
 
 -- A sheet that is refused is answered so.
 pub answer_away : (t : List ℕ) (f : Refusal) → (reading_of t).refusal ≡ Some f → answer_in t ≡ refused f
-unfolding answer_in answer_of answer_to answer_by
+unfolding answer_in answer_of answer_by
 answer_away t f h = accepted_refused refused _ h
 
 -- The head and the store that were read are those of the text.
@@ -85,7 +85,7 @@ module _ (t : List ℕ) (text words words' bytes bytes' : List ℕ) (p : Reply) 
   told_refused (found s k a no_plan) w h i q e = absurd (i (ap (λ (x : Reply). x.refusal) w.reply))
 
   -- A part that is too short, in the place of a plan or of "no plan".
-  pub told_narrow : (0 < p.refusal → 10 ≤ p.refusal) → (a : Answer) → Told t a → Answers a words words' bytes bytes' p → length text < text_least → (q : Report) → q ≡ refused_report 9 0 0 → Promise a q text
+  pub told_narrow : (0 < p.refusal → 9 ≤ p.refusal) → (a : Answer) → Told t a → Answers a words words' bytes bytes' p → length text < text_least → (q : Report) → q ≡ refused_report 9 0 0 → Promise a q text
   told_narrow other (refused f) n w h q e = absurd (omega (arith, n, ap (λ (x : Reply). x.refusal) w.reply, other (omega (arith, n, ap (λ (x : Reply). x.refusal) w.reply))))
   told_narrow other (found s k a o) n w h q e = rw (lt-ltb (length text) text_least h) (e, refl)
 

@@ -6,7 +6,7 @@ ghost use Rattle.report.specs.Report.{answer_in, report_by, report_of, text_afte
 
 use plan_text::TEXT_LEAST;
 use refusal::Refusal;
-use store::{JOBS_MAX, Store};
+use store::{JOBS_MAX, ReadSheet, Store};
 
 // Plans a sheet with a table of its own, and writes the plan's text: its length. The part is tested after 8 and before 10.
 pub fn write_plan(s: &[u8], text: &mut [u8]) -> Result<usize, Refusal>
@@ -18,16 +18,17 @@ pub fn write_plan(s: &[u8], text: &mut [u8]) -> Result<usize, Refusal>
     let mut levels = [0u8; JOBS_MAX];
     let mut store = Store::clear();
     let head = sheet::read(s, &mut store)?;
-    let plan = planner::plan_read(Ok(head), &store, &mut table, &mut levels);
+    let sheet = ReadSheet {
+        head,
+        store: &store,
+    };
+    let plan = planner::plan_read(sheet, &mut table, &mut levels);
     if text.len() < TEXT_LEAST {
-        return match plan {
-            Ok(_) => Err(Refusal::PartShort),
-            Err(f) => match f {
-                Refusal::NoPlan => Err(Refusal::PartShort),
-                _ => Err(f),
-            },
-        };
+        return Err(match plan {
+            Err(f) if f.number() < Refusal::PartShort.number() => f,
+            _ => Refusal::PartShort,
+        });
     }
     plan?;
-    Ok(plan_text::put_plan(s, head, &store, &levels, text))
+    Ok(plan_text::put_plan(s, sheet, &levels, text))
 }

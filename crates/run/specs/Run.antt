@@ -25,14 +25,14 @@ state_of a =
 pub record FiguresOf (s : Sheet) (a : Run) (level : ℕ) (change : Change) (job : Job) : Type 0 where
   pub change_time : change.time ≡ s.change_time a.level level
   pub change_energy : change.energy ≡ s.change_energy a.level level
-  pub job_time : job.time ≡ s.job_time a.done level
-  pub job_energy : job.energy ≡ s.job_energy a.done level
+  pub job_time : job.work.time ≡ s.job_time a.done level
+  pub job_energy : job.work.energy ≡ s.job_energy a.done level
   pub steady : job.steady ≡ steady_of s level
-  pub decay : job.decay ≡ s.decay a.done level
+  pub decay : job.work.decay ≡ s.decay a.done level
 
 -- What a job's sums in 64 bits, its count in 32 and the thermal rule may rest on.
 pub record Bounds (a : Run) (job : Job) : Type 0 where
   pub done : suc a.done < 2 ^ 32
   pub time : a.time < 2 ^ 63
   pub energy : a.energy < 2 ^ 63
-  pub rule : RuleDomain a.temperature job.steady job.decay
+  pub rule : RuleDomain a.temperature job.steady job.work.decay

@@ -5,7 +5,7 @@ ghost use Rattle.frame.specs.Sheet.{Sheet};
 ghost use Rattle.frame.specs.Run.{fresh, step};
 ghost use Rattle.run.specs.Run.{state_of, FiguresOf, Bounds};
 
-use store::Change;
+use store::{Change, Work};
 
 // A run so far, "one state that each job carries forward": jobs done, present level, time, energy, temperature, and the highest
 // temperature at a job end.
@@ -19,13 +19,11 @@ pub struct Run {
     pub peak: u64,
 }
 
-// A job's figures at a level: "the job's time and energy there", the level's steady-state temperature and the decay.
+// A job's figures at a level: "the job's time and energy there" and the decay, and the level's steady-state temperature.
 #[derive(Clone, Copy)]
 pub struct Job {
-    pub time: u32,
-    pub energy: u32,
+    pub work: Work,
     pub steady: u32,
-    pub decay: u32,
 }
 
 impl Run {
@@ -43,35 +41,24 @@ impl Run {
         }
     }
 
-    // The run before its first job: "time 0, energy 0, the start temperature and the start level", and no job end yet.
-    pub fn start(level: u32, temperature: u64) -> Run
-        ensures { state_of result ≡ fresh 0 level 0 temperature }
-    {
-        Run::fresh(0, level, 0, temperature)
-    }
-
     // The run after the next job at `level`, on every sheet whose figures these are: "A job at a level adds the job's time and
     // energy there and those of the change from the level before."
     pub fn after(self, level: u32, change: Change, job: Job) -> Run
         requires { Bounds self job }
         ensures { (s : Sheet) → FiguresOf s self level change job → state_of result ≡ step s (state_of self) level }
     {
-        let done = self.done + 1;
-        let time = self.time + change.time as u64 + job.time as u64;
-        let energy = self.energy + change.energy as u64 + job.energy as u64;
         let temperature = thermal::temperature_after(
             self.temperature,
             job.steady as u64,
-            job.decay as u64,
+            job.work.decay as u64,
         );
-        let peak = self.peak.max(temperature);
         Run {
-            done,
+            done: self.done + 1,
             level,
-            time,
-            energy,
+            time: self.time + change.time as u64 + job.work.time as u64,
+            energy: self.energy + change.energy as u64 + job.work.energy as u64,
             temperature,
-            peak,
+            peak: self.peak.max(temperature),
         }
     }
 }

@@ -54,20 +54,21 @@ pub record Whole (t : List ℕ) (r : SheetRead) : Type 0 where
   pub sound : (body_of head t).read ≡ Ok end
   pub same : r ≡ read_in (Ok head) (body_of head t).store
 
--- A sheet's refusal is one of 1 to 6, and its line and its field have a bound.
+-- A sheet's refusal is one of 1 to 6, its line and its field have a bound, and 5 is the start temperature's: field 8 of line 2.
 pub record Refused (r : Refusal) : Type 0 where
   pub number : number_of r ≤ 6
   pub line : line_of r ≤ end_line
   pub field : field_of r ≤ 11
+  pub hot : number_of r ≡ 5 → (line_of r ≡ 2) × (field_of r ≡ 8)
 
 -- A fault is such a refusal.
 fault_refused : (f : LineFault) → f.line ≤ end_line → field_in f.fault ≤ 11 → Refused (refusal_of f)
 fault_refused f = go f.fault
   where
     go : (fault : Fault) → f.line ≤ end_line → field_in fault ≤ 11 → Refused (refusal_as f.line fault)
-    go Shape h k = record { number = omega arith; line = h; field = omega arith }
-    go (Form field) h k = record { number = omega arith; line = h; field = k }
-    go (Range field) h k = record { number = omega arith; line = h; field = k }
+    go Shape h k = record { number = omega arith; line = h; field = omega arith; hot = λ e. (omega (arith, e), omega (arith, e)) }
+    go (Form field) h k = record { number = omega arith; line = h; field = k; hot = λ e. (omega (arith, e), omega (arith, e)) }
+    go (Range field) h k = record { number = omega arith; line = h; field = k; hot = λ e. (omega (arith, e), omega (arith, e)) }
 
 -- What holds of every refusal and of every whole reading of the text t holds of its sheet.
 module _ (t : List ℕ) (P : SheetRead → Type 0) (refused : (r : Refusal) → Refused r → P (refused_read r)) (read : (r : SheetRead) → Whole t r → P r) where
@@ -81,7 +82,7 @@ module _ (t : List ℕ) (P : SheetRead → Type 0) (refused : (r : Refusal) → 
       after_cases P f.read _ _ (λ fault e. refused (refusal_of fault) (fault_refused fault (p.fault fault e).0 (p.fault fault e).1))
       (λ end e. cond_cases P (eqb (length end.text) 0) _ _
       (λ c. read _ (record { head = head; first = a; second = b; held = h; cool = cool; end = end; sound = e; same = refl }))
-      (λ c. refused (Trailing end.line) (record { number = omega arith; line = p.line end e; field = omega arith })))
+      (λ c. refused (Trailing end.line) (record { number = omega arith; line = p.line end e; field = omega arith; hot = λ z. (omega (arith, z), omega (arith, z)) })))
 
   -- From line 2 on.
   head_cases : (version : ℕ) → ahead 10 t ≡ true → P (head_from version (next_rest (whole t)))
@@ -91,7 +92,7 @@ module _ (t : List ℕ) (P : SheetRead → Type 0) (refused : (r : Refusal) → 
       after_cases P (next_by (head_fields version) r) _ _
       (λ f e. let p = line_fault (head_fields version) r f (head_field version (until 10 r.text)) e in refused (refusal_of f) (fault_refused f (omega (arith, p.line)) p.field))
       (λ head e. let p = line_read (head_fields version) r head e in
-      cond_cases P (ltb head.0.temperature_limit head.0.start_temperature) _ _ (λ c. refused Hot (omega arith))
+      cond_cases P (ltb head.0.temperature_limit head.0.start_temperature) _ _ (λ c. refused Hot (record { number = omega arith; line = omega arith; field = omega arith; hot = λ e. (omega arith, omega arith) }))
       (λ c. rw p.rest (figures_cases head.0 a p.ends (head_held version (until 10 r.text) head.0 p.says) (ltb-false _ _ c))))
 
   -- From line 1 on.
@@ -99,7 +100,7 @@ module _ (t : List ℕ) (P : SheetRead → Type 0) (refused : (r : Refusal) → 
   unfolding reading_of
   sheet_cases =
       let r = whole t in
-      cond_cases P (ltb 20480 (length t)) _ _ (λ a. refused TooLong (omega arith))
+      cond_cases P (ltb 20480 (length t)) _ _ (λ a. refused TooLong (record { number = omega arith; line = omega arith; field = omega arith; hot = λ e. (omega (arith, e), omega (arith, e)) }))
       (λ a. after_cases P (next_by version_fields r) _ _
       (λ f e. let p = line_fault version_fields r f (version_field (until 10 r.text)) e in refused (refusal_of f) (fault_refused f (omega (arith, p.line)) p.field))
       (λ version e. let p = line_read version_fields r version e in rw p.rest (head_cases version.0 p.ends)))

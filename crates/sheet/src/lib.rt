@@ -36,7 +36,9 @@ fn read_lines(s: &[u8], store: &mut Store) -> Result<Head, Refusal>
 }
 
 // Reads a sheet, or gives the first refusal of 1 to 6. The figures of its L, S and B lines go to the store, whatever it held; all else in
-// it is then 0. A caller has just made the store, so that clearing it here costs nothing.
+// it is then 0. The store is lent: head and store handed back as one value, of 6,700 bytes, go through two copies, and each call takes
+// 18 KB of stack more, past the bound of 32 KB (measured). A caller has just made the store; it is cleared here again, so that nothing is
+// asked of what it held.
 pub fn read(s: &[u8], store: &mut Store) -> Result<Head, Refusal>
     ensures { read_in result store.new ≡ reading_of s.now }
 {

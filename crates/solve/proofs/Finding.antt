@@ -1,10 +1,11 @@
 -- From the start's word and the walk's part to what was found, and from there to the answer.
 -- Assumes nothing.
 use mathlib.Core.Path.{◌≡◌, refl, sym, ap, ◌∙◌}
-use mathlib.Core.Bool.{Bool, true, false, true≢false}
 use mathlib.Core.List.{List, [], ◌∷◌, ◌++◌}
 use Prim.Native.Nat.{ℕ, zero, suc, ◌+◌, ◌-◌, ◌≤◌, ◌<◌}
 use native.Mathlib.Omega.{arith}
+use Rattle.std.specs.Prelude.{Option, Some, None, Err}
+use Rattle.std.proofs.lemmas.Option.{none-some}
 use borrow.Author.Tests.{le-leb, lt-leb}
 use lib.ListN.{length, get_or, take, drop, get_or-append}
 use lib.Seq.{take_at}
@@ -18,17 +19,19 @@ use Rattle.frame.specs.Table.{need, filled}
 use Rattle.frame.proofs.Run.{meets_peak}
 use Rattle.frame.proofs.Slack.{rounded_sound}
 use Rattle.frame.proofs.Afresh.{left_demand2, spent_none}
+use Rattle.refusal.specs.declared.Refusal.{Refusal}
+use Rattle.refusal.specs.declared.Refusal.TheVariants.{NoPlan}
 use Rattle.run.specs.Run.{state_of}
 use Rattle.run.specs.declared.Run.{Run}
-use Rattle.table.specs.declared.Frame.{Frame}
+use Rattle.table.specs.declared.axes.Frame.{Frame}
 use Rattle.table.specs.Table.{Axes}
 use Rattle.lookup.specs.Lookup.{Looks, rest_in}
 use Rattle.lookup.proofs.Lookup.{rest_is, rest_least, looks}
 use Rattle.table.proofs.Cells.{filled_words}
 use Rattle.walk.specs.Walk.{Starts}
-use Rattle.reply.specs.Reply.{Reply, planned_as, refused_reply}
+use Rattle.reply.specs.Reply.{Reply, planned_as, reply_by}
 use Rattle.reply.specs.Answer.{found, table_after, part_after, Answers}
-use Rattle.solve.specs.Solve.{is_plan, Finds}
+use Rattle.solve.specs.Solve.{refusal_in, Finds}
 
 -- ---- the start's word
 
@@ -43,14 +46,14 @@ module _ {s : Sheet} {f : Frame} (x : Axes s f) (b : Run) (w : Readable s (state
 -- ---- what is found
 
 module _ (s : Sheet) (n : ℕ) (a : State) where
-  found_none : {words words' bytes bytes' : List ℕ} → outcome s n a ≡ no_plan → words' ≡ filled s words → bytes' ≡ bytes → Finds s n a words words' bytes bytes' false
+  found_none : {words words' bytes bytes' : List ℕ} → outcome s n a ≡ no_plan → words' ≡ filled s words → bytes' ≡ bytes → Finds s n a words words' bytes bytes' (Some NoPlan)
   found_none {bytes = bytes} q w p =
       let o = sym q in
-      record { plan = ap is_plan o; table = w; part = p ∙ ap (λ (z : Outcome). part_after (found s n a z) bytes) o }
+      record { plan = ap refusal_in o; table = w; part = p ∙ ap (λ (z : Outcome). part_after (found s n a z) bytes) o }
 
   -- Energy past its limit: no plan, and the table is filled all the same.
   pub finds_spent : {words words' bytes bytes' : List ℕ} → Ranges s → 1 ≤ n → a.peak ≤ s.temperature_limit → s.energy_budget < a.energy →
-      words' ≡ filled s words → bytes' ≡ bytes → Finds s n a words words' bytes bytes' false
+      words' ≡ filled s words → bytes' ≡ bytes → Finds s n a words words' bytes bytes' (Some NoPlan)
   finds_spent ok some cool h w p = found_none (spent_none s ok n some a cool h) w p
 
 module _ (s : Sheet) (n : ℕ) (a : State) (k : ℕ) (e : k ≡ least s n a) where
@@ -63,14 +66,14 @@ module _ (s : Sheet) (n : ℕ) (a : State) (k : ℕ) (e : k ≡ least s n a) whe
   unfolding outcome
   in_time h = rw (le-leb (a.time + least s n a) s.deadline (omega arith)) refl
 
-  pub finds_none : {words words' bytes bytes' : List ℕ} → s.deadline < a.time + k → words' ≡ filled s words → bytes' ≡ bytes → Finds s n a words words' bytes bytes' false
+  pub finds_none : {words words' bytes bytes' : List ℕ} → s.deadline < a.time + k → words' ≡ filled s words → bytes' ≡ bytes → Finds s n a words words' bytes bytes' (Some NoPlan)
   finds_none h w p = found_none s n a (late h) w p
 
   pub finds_plan : {words words' bytes bytes' : List ℕ} → a.time + k ≤ s.deadline → words' ≡ filled s words → bytes' ≡ plan s n a ++ drop n bytes →
-      Finds s n a words words' bytes bytes' true
+      Finds s n a words words' bytes bytes' None
   finds_plan {bytes = bytes} h w p =
       let o = sym (in_time h) in
-      record { plan = ap is_plan o; table = w; part = p ∙ ap (λ (z : Outcome). part_after (found s n a z) bytes) o }
+      record { plan = ap refusal_in o; table = w; part = p ∙ ap (λ (z : Outcome). part_after (found s n a z) bytes) o }
 
 -- What the walk rests on.
 pub starts : {s : Sheet} {a : State} (k : ℕ) → Ranges s → Readable s a → a.energy ≤ s.energy_budget → k ≡ least s (s.jobs - a.done) a → a.time + k ≤ s.deadline → Starts s a
@@ -93,7 +96,7 @@ below_at l (j ∷ js) (suc i) b h = below_at l js i b.1 (omega arith)
 -- ---- the answer, by what was found
 
 module _ (s : Sheet) (n : ℕ) (a : State) (words words' bytes bytes' : List ℕ) where
-  on_plan : (o : Outcome) → Ranges s → a.peak ≤ s.temperature_limit → OutcomeDemand2 s n a o → is_plan o ≡ true → words' ≡ table_after (found s n a o) words →
+  on_plan : (o : Outcome) → Ranges s → a.peak ≤ s.temperature_limit → OutcomeDemand2 s n a o → refusal_in o ≡ None → words' ≡ table_after (found s n a o) words →
       bytes' ≡ part_after (found s n a o) bytes → (c : State) (q : Reply) → c ≡ exact_run s a (take n bytes') →
       q ≡ planned_as (record { time = c.time; energy = c.energy; temperature = c.temperature }) c.peak → Answers (found s n a o) words words' bytes bytes' q
   unfolding figures
@@ -106,24 +109,26 @@ module _ (s : Sheet) (n : ℕ) (a : State) (words words' bytes bytes' : List ℕ
         part = p;
         peak = record { low = omega (arith, k); high = omega (arith, k, meets_peak s exact s.deadline js a m (rounded_sound s ok (limits s) js a b.keeps.meets)) };
       }
-  on_plan no_plan ok m b t w p c q e z = absurd (true≢false (sym t))
+  on_plan no_plan ok m b t w p c q e z = absurd (none-some _ (sym t))
 
-  pub on_levels : (o : Outcome) → OutcomeDemand2 s n a o → is_plan o ≡ true → bytes' ≡ part_after (found s n a o) bytes → (i : ℕ) → i < n → get_or bytes' i 0 < s.levels
+  pub on_levels : (o : Outcome) → OutcomeDemand2 s n a o → refusal_in o ≡ None → bytes' ≡ part_after (found s n a o) bytes → (i : ℕ) → i < n → get_or bytes' i 0 < s.levels
   on_levels (planned js) b t p i h =
       let k : i < length js = omega (arith, b.keeps.levels.size) in
       rw (p, get_or-append js (drop n bytes) 0 i k) (below_at s.levels js i b.keeps.levels.below k)
-  on_levels no_plan b t p i h = absurd (true≢false (sym t))
+  on_levels no_plan b t p i h = absurd (none-some _ (sym t))
 
-  on_none : (o : Outcome) → is_plan o ≡ false → words' ≡ table_after (found s n a o) words → bytes' ≡ part_after (found s n a o) bytes →
-      (q : Reply) → q ≡ refused_reply 10 0 0 → Answers (found s n a o) words words' bytes bytes' q
-  on_none (planned js) t w p q e = absurd (true≢false t)
-  on_none no_plan t w p q e = record { reply = e; table = w; part = p; peak = tt }
+  on_none : (o : Outcome) (f : Refusal) → refusal_in o ≡ Some f → words' ≡ table_after (found s n a o) words → bytes' ≡ part_after (found s n a o) bytes →
+      Answers (found s n a o) words words' bytes bytes' (reply_by (Err f))
+  on_none (planned js) f t w p = absurd (none-some f t)
+  on_none no_plan f t w p =
+      let e : f ≡ NoPlan = cc t in
+      rw e (record { reply = refl; table = w; part = p; peak = tt })
 
-  module _ (b : Bool) (w : Finds s n a words words' bytes bytes' b) where
-    pub answers_none : b ≡ false → (q : Reply) → q ≡ refused_reply 10 0 0 → Answers (found s n a (outcome s n a)) words words' bytes bytes' q
-    answers_none t q e = on_none (outcome s n a) (sym w.plan ∙ t) w.table w.part q e
+  module _ (r : Option Refusal) (w : Finds s n a words words' bytes bytes' r) where
+    pub answers_none : (f : Refusal) → r ≡ Some f → Answers (found s n a (outcome s n a)) words words' bytes bytes' (reply_by (Err f))
+    answers_none f t = on_none (outcome s n a) f (sym w.plan ∙ t) w.table w.part
 
-    module _ (ok : Ranges s) (some : 1 ≤ n) (cool : a.peak ≤ s.temperature_limit) (t : b ≡ true) where
+    module _ (ok : Ranges s) (some : 1 ≤ n) (cool : a.peak ≤ s.temperature_limit) (t : r ≡ None) where
       best : OutcomeDemand2 s n a (outcome s n a)
       best = left_demand2 s ok n some a cool
 

@@ -18,12 +18,7 @@ steadies store resistance = tabulate (λ j. steady_state (power_at store j) resi
 -- What the store and the list have of job i at level j.
 abbrev pub job_in : Store → List ℕ → ℕ → ℕ → Job
 job_in store steady i j =
-    record {
-      time = (work_at store i j).time;
-      energy = (work_at store i j).energy;
-      steady = get_or steady j 0;
-      decay = (work_at store i j).decay;
-    }
+    record { work = work_at store i j; steady = get_or steady j 0 }
 
 -- The store and the list hold the figures of the sheet.
 pub record Stored (s : Sheet) (store : Store) (states : List ℕ) : Type 0 where

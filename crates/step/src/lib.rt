@@ -1,18 +1,18 @@
 #![tactic(auto)]
 
 ghost use Rattle.std.specs.Prelude.{◌≡◌, ℕ, ◌≤◌, ◌<◌, length, get_or};
-ghost use Rattle.thermal.specs.Thermal.{steady_state};
-ghost use Rattle.frame.specs.Sheet.{Sheet, Ranges, temperature_max};
+ghost use Rattle.frame.specs.Sheet.{Sheet, Ranges};
 ghost use Rattle.frame.specs.Run.{start, step, exact_run};
 ghost use Rattle.store.specs.Store.{jobs_max, levels_max};
-ghost use Rattle.store.specs.Figures.{power_at, change_at, sheet_of};
+ghost use Rattle.store.specs.Figures.{change_at, sheet_of};
+ghost use Rattle.store.specs.Sheet.{sheet_read};
 ghost use Rattle.store.specs.declared.Head.{Head};
 ghost use Rattle.store.specs.declared.Store.{Store};
 ghost use Rattle.run.specs.Run.{state_of};
 ghost use Rattle.step.specs.Store.{steadies, job_in, Stored, Rests, Begun};
 
 use run::{Job, Run};
-use store::{Change, Head, LEVELS_MAX, Store, Work};
+use store::{Change, Head, LEVELS_MAX, ReadSheet, Store};
 
 // A sheet's figures as a run takes them: those of its L, S and B lines, and the steady-state temperature of each level.
 #[derive(Clone, Copy)]
@@ -23,19 +23,20 @@ pub struct Figures<'a> {
 
 impl<'a> Figures<'a> {
     // Works out the steady-state temperatures once, for all jobs.
-    // No `map` of the powers: its proof would follow call by call that the cast fits, where the bound here is by level.
-    pub fn of(store: &'a Store, resistance: u32) -> Figures<'a>
-        requires { (j : ℕ) → j < levels_max → steady_state (power_at store.now j) resistance ≤ temperature_max }
-        ensures store { result.store.now ≡ store.now }
-        ensures steady { result.steady ≡ steadies store.now resistance }
-        ensures stored { (h : Head) → h.resistance ≡ resistance → Stored (sheet_of h store.now) result.store.now result.steady }
+    pub fn of(sheet: ReadSheet<'a>) -> Figures<'a>
+        ensures store { result.store.now ≡ sheet.entry.store.now }
+        ensures steady { result.steady ≡ steadies sheet.entry.store.now sheet.entry.head.resistance }
+        ensures stored { Stored (sheet_read sheet.entry) result.store.now result.steady }
     {
-        let mut steady = [0u32; LEVELS_MAX];
-        for j in 0..LEVELS_MAX {
-            let t = thermal::steady_state(store.powers[j], resistance);
-            steady[j] = t as u32;
+        let resistance = sheet.head.resistance;
+        let steady = sheet
+            .store
+            .powers
+            .map(|power| thermal::steady_state(power, resistance) as u32);
+        Figures {
+            store: sheet.store,
+            steady,
         }
-        Figures { store, steady }
     }
 
     // The cost of the change from level p to level j, which are plain numbers, as a run has its level.
@@ -46,22 +47,14 @@ impl<'a> Figures<'a> {
         self.store.changes[p as usize][j as usize]
     }
 
-    // The figures of job i at level j.
+    // The figures of job i at level j, likewise.
     fn job(&self, i: u32, j: u32) -> Job
         requires { (i < jobs_max) × (j < levels_max) }
         ensures { result ≡ job_in self.now.store.now self.now.steady i j }
     {
-        let Work {
-            time,
-            energy,
-            decay,
-        } = self.store.works[i as usize][j as usize];
-        let steady = self.steady[j as usize];
         Job {
-            time,
-            energy,
-            steady,
-            decay,
+            work: self.store.works[i as usize][j as usize],
+            steady: self.steady[j as usize],
         }
     }
 
@@ -70,11 +63,9 @@ impl<'a> Figures<'a> {
         requires { Rests run self.now.store.now self.now.steady j }
         ensures { (s : Sheet) → Stored s self.now.store.now self.now.steady → state_of result ≡ step s (state_of run) j }
     {
-        let p = run.level;
-        let i = run.done;
-        let c = self.change(p, j);
-        let b = self.job(i, j);
-        run.after(j, c, b)
+        let change = self.change(run.level, j);
+        let job = self.job(run.done, j);
+        run.after(j, change, job)
     }
 
     // The run after its next jobs at the levels of a list, without rounding, on every sheet whose figures these are.
@@ -97,5 +88,5 @@ impl<'a> Figures<'a> {
 pub fn start_of(head: Head) -> Run
     ensures { (store : Store) → state_of result ≡ start (sheet_of head store) }
 {
-    Run::start(head.start_level, head.start_temperature as u64)
+    Run::fresh(0, head.start_level, 0, head.start_temperature as u64)
 }

@@ -1,6 +1,6 @@
 -- Head and store as a `Sheet` of `frame` (document 01, 'The sheet'). What is past the end of the store counts as 0.
 -- Assumes nothing.
-use Rattle.std.specs.Prelude.{List, [], ℕ, get_or, replicate}
+use Rattle.std.specs.Prelude.{[], ℕ, get_or, replicate}
 use Rattle.frame.specs.Sheet.{Sheet}
 use Rattle.store.specs.Store.{jobs_max, levels_max}
 use Rattle.store.specs.declared.Head.{Head}

@@ -1,2 +1,3 @@
 pub mod Store
 pub mod Figures
+pub mod Sheet

@@ -4,6 +4,10 @@
 ghost use Rattle.std.specs.Prelude.{◌≡◌};
 ghost use Rattle.store.specs.Figures.{clear};
 
+mod sheet;
+
+pub use sheet::ReadSheet;
+
 // The figures of the V line and of the H line, in their order.
 #[derive(Clone, Copy)]
 pub struct Head {
@@ -42,9 +46,6 @@ pub const COST_MAX: u32 = 10_000_000;
 
 // "decay (0 to 65,536)"
 pub const DECAY_MAX: u32 = 65_536;
-
-// Changes from a level to a level.
-pub const CHANGES_MAX: usize = LEVELS_MAX * LEVELS_MAX;
 
 // What a change of level costs: "S, time, energy of a change".
 #[derive(Clone, Copy)]

@@ -16,7 +16,7 @@ use Rattle.run.specs.declared.Run.{Run}
 use Rattle.frame.specs.Table.{energy_cells, temperature_cells, need, place, cell, word_at, tabulate, filled, words_max}
 use Rattle.frame.proofs.Table.{place_lt, word_at_place}
 use Rattle.frame.proofs.Tabulate.{length_tabulate, get_d_tabulate}
-use Rattle.table.specs.declared.Frame.{Frame}
+use Rattle.table.specs.declared.axes.Frame.{Frame}
 use Rattle.table.specs.Table.{raised_energy_max, Axes, AtCell, Raises, cells, Holds}
 
 module _ (s : Sheet) where
@@ -62,12 +62,6 @@ module _ {s : Sheet} {f : Frame} (g : Axes s f) where
       let m : 1 ≤ s.jobs * s.levels = mul-le-mul g.ranges.jobs.low g.ranges.levels.low in
       omega (arith, g.allowed, mul-le-mul_right (energy_cells s * temperature_cells s) m, mul_assoc (s.jobs * s.levels) (energy_cells s) (temperature_cells s))
 
-  pub width_small : f.temperature_cells ≤ words_max
-  unfolding cells energy_cells
-  width_small =
-      let h : 1 ≤ ceil_div s.energy_budget s.energy_step + 1 = omega arith in
-      omega (arith, cells_small, g.temperature_count, mul-le-mul_right (temperature_cells s) h)
-
 -- A filled table holds the words of all jobs.
 pub filled_words : (s : Sheet) (old : List ℕ) (i : ℕ) → need s ≤ length old → Holds s (filled s old) i
 unfolding filled need
@@ -81,16 +75,5 @@ filled_words s old i room =
     }
 
 -- A run within the limits can be raised.
-pub raises : {s : Sheet} {f : Frame} → Axes s f → (b : Run) → b.energy ≤ s.energy_budget → b.temperature ≤ s.temperature_limit → Raises f b
-raises x b u v =
-    omega (
-      arith,
-      u,
-      v,
-      x.energy_step,
-      x.temperature_step,
-      x.ranges.energy_budget,
-      x.ranges.temperature_limit,
-      x.ranges.energy_step,
-      x.ranges.temperature_step,
-    )
+pub raises : {s : Sheet} → Ranges s → (b : Run) → b.energy ≤ s.energy_budget → b.temperature ≤ s.temperature_limit → Raises b
+raises ok b u v = record { energy = omega (arith, u, ok.energy_budget); temperature = omega (arith, v, ok.temperature_limit) }

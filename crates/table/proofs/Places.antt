@@ -7,8 +7,9 @@ use native.Mathlib.Nat.{add-mul, add-zero, zero-mul, mul_assoc, mul-le-mul_right
 use native.Mathlib.Omega.{arith}
 use Rattle.frame.specs.Sheet.{Sheet}
 use Rattle.frame.specs.Table.{energy_cells, temperature_cells, need, place, words_max}
-use Rattle.table.specs.declared.Frame.{Frame}
+use Rattle.table.specs.declared.axes.Frame.{Frame}
 use Rattle.table.specs.Table.{Axes, cells, base}
+use Rattle.table.proofs.Frames.{rows_some, columns_some, energy_count, temperature_count}
 
 module _ (s : Sheet) where
   pub width_some : 0 < temperature_cells s
@@ -93,16 +94,9 @@ abbrev pub at_by : Frame → ℕ → ℕ → ℕ
 at_by f i j = (i * f.head.levels + j) * f.energy_cells * f.temperature_cells
 
 module _ {s : Sheet} {f : Frame} (g : Axes s f) where
-  pub rows_some : 1 ≤ f.energy_cells
-  unfolding energy_cells
-  rows_some = omega (arith, g.energy_count)
-
-  pub columns_some : 1 ≤ f.temperature_cells
-  columns_some = omega (arith, g.temperature_count, width_some s)
-
   pub cells_by : f.energy_cells * f.temperature_cells ≡ cells s
   unfolding cells
-  cells_by = ap₂ ◌*◌ g.energy_count g.temperature_count
+  cells_by = ap₂ ◌*◌ (energy_count g) (temperature_count g)
 
   pub job_by : f.head.levels * f.energy_cells * f.temperature_cells ≡ s.levels * cells s
   job_by = mul_assoc f.head.levels f.energy_cells f.temperature_cells ∙ ap₂ ◌*◌ g.levels cells_by
@@ -114,19 +108,19 @@ module _ {s : Sheet} {f : Frame} (g : Axes s f) where
   -- The last row ends with the level.
   pub last_row : (f.energy_cells - 1) * f.temperature_cells + f.temperature_cells ≡ cells s
   last_row =
-      let z : f.energy_cells ≡ f.energy_cells - 1 + 1 = omega (arith, rows_some) in
+      let z : f.energy_cells ≡ f.energy_cells - 1 + 1 = omega (arith, rows_some f) in
       omega (arith, cells_by, ap (λ (x : ℕ). x * f.temperature_cells) z, add-mul (f.energy_cells - 1) 1 f.temperature_cells)
 
   -- Where the words of a job begin.
   pub start_is : (i : ℕ) → i * f.head.levels * (f.energy_cells * f.temperature_cells) ≡ base s i 0
   start_is i =
       sym (mul_assoc (i * f.head.levels) f.energy_cells f.temperature_cells)
-      ∙ rw (g.levels, g.energy_count, g.temperature_count) (sym (base_start s i))
+      ∙ rw (g.levels, energy_count g, temperature_count g) (sym (base_start s i))
 
   module _ (i j : ℕ) (hi : i < s.jobs) (hj : j < s.levels) where
     pub at_is : at_by f i j ≡ base s i j
     unfolding base place
-    at_is = rw (g.levels, g.energy_count, g.temperature_count) (omega (arith, add-zero ((i * s.levels + j) * energy_cells s)))
+    at_is = rw (g.levels, energy_count g, temperature_count g) (omega (arith, add-zero ((i * s.levels + j) * energy_cells s)))
 
     pub at_need : base s i j + cells s ≤ need s
     at_need = omega (arith, base_within s i j hj, base_mono s (suc i) s.jobs (omega arith), base_need s)
@@ -136,8 +130,8 @@ module _ {s : Sheet} {f : Frame} (g : Axes s f) where
 
     pub row_small : (i * f.head.levels + j ≤ words_max) × ((i * f.head.levels + j) * f.energy_cells ≤ words_max)
     row_small =
-        let r : (i * f.head.levels + j) * f.energy_cells ≤ words_max = omega (arith, at_small, le-mul_of_pos_right ((i * f.head.levels + j) * f.energy_cells) columns_some) in
-        (omega (arith, r, le-mul_of_pos_right (i * f.head.levels + j) rows_some), r)
+        let r : (i * f.head.levels + j) * f.energy_cells ≤ words_max = omega (arith, at_small, le-mul_of_pos_right ((i * f.head.levels + j) * f.energy_cells) (columns_some f)) in
+        (omega (arith, r, le-mul_of_pos_right (i * f.head.levels + j) (rows_some f)), r)
 
     pub next_is : at_by f i j + f.head.levels * f.energy_cells * f.temperature_cells ≡ base s (suc i) j
     next_is = omega (arith, at_is, job_by, base_next s i j)
@@ -145,7 +139,7 @@ module _ {s : Sheet} {f : Frame} (g : Axes s f) where
     pub job_small : f.head.levels * f.energy_cells ≤ words_max
     job_small =
         let n : s.levels * cells s ≤ words_max = omega (arith, base_next s i 0, base_mono s (suc i) s.jobs (omega arith), base_need s, g.allowed) in
-        omega (arith, n, job_by, le-mul_of_pos_right (f.head.levels * f.energy_cells) columns_some)
+        omega (arith, n, job_by, le-mul_of_pos_right (f.head.levels * f.energy_cells) (columns_some f))
 
     pub next_need : suc i < s.jobs → base s (suc i) j + cells s ≤ need s
     next_need h = omega (arith, base_within s (suc i) j hj, base_mono s (suc (suc i)) s.jobs (omega arith), base_need s)

@@ -9,13 +9,13 @@ use Rattle.frame.specs.Table.{energy_cells, temperature_cells, need, words_max, 
 use Rattle.run.specs.declared.Run.{Run}
 use Rattle.store.specs.declared.Store.{Store}
 use Rattle.step.specs.Store.{Stored}
-use Rattle.table.specs.declared.Frame.{Frame}
+use Rattle.table.specs.declared.axes.Frame.{Frame}
 
 -- A raised energy is below W and one step more, each at most 2,000,000,000.
 abbrev pub raised_energy_max : ℕ
 raised_energy_max = limit_max + limit_max
 
--- The axes are those of the sheet's table, "allowed" in size.
+-- The frame is that of the sheet, and its axes those of the sheet's table, "allowed" in size.
 pub record Axes (s : Sheet) (f : Frame) : Type 0 where
   pub ranges : Ranges s
   pub jobs : f.head.jobs ≡ s.jobs
@@ -24,8 +24,6 @@ pub record Axes (s : Sheet) (f : Frame) : Type 0 where
   pub temperature_limit : f.head.temperature_limit ≡ s.temperature_limit
   pub energy_step : f.head.energy_step ≡ s.energy_step
   pub temperature_step : f.head.temperature_step ≡ s.temperature_step
-  pub energy_count : f.energy_cells ≡ energy_cells s
-  pub temperature_count : f.temperature_cells ≡ temperature_cells s
   pub allowed : need s ≤ words_max
 
 -- What is handed over is the sheet's: the axes, and the figures in the store and in the list of steady-state temperatures.
@@ -43,13 +41,9 @@ pub record AtCell (s : Sheet) (a : State) : Type 0 where
   pub temperature : a.temperature ≤ raised_temperature_max
 
 -- What raising a run may rest on, in 32 bits.
-pub record Raises (f : Frame) (b : Run) : Type 0 where
+pub record Raises (b : Run) : Type 0 where
   pub energy : b.energy ≤ limit_max
   pub temperature : b.temperature ≤ limit_max
-  pub energy_step : 1 ≤ f.head.energy_step
-  pub energy_step_most : f.head.energy_step ≤ limit_max
-  pub temperature_step : 1 ≤ f.head.temperature_step
-  pub temperature_step_most : f.head.temperature_step ≤ limit_max
 
 -- The words of one number of jobs done and one level before.
 unfoldable pub cells : Sheet → ℕ

@@ -4,8 +4,8 @@ ghost use Rattle.table.specs.Table.{Framed};
 use crate::Frame;
 use step::Figures;
 
-// A sheet to plan, with all that planning takes of it: the axes of its table, and its figures. The table is not in it: `fill` is lent it to
-// write, `walk` to read, so that a struct would hold it in two ways, and each contract says that it has room.
+// A sheet to plan, with all that planning takes of it: the axes of its table, and its figures. The table is not in it: of a struct that held
+// it by `&mut` each contract would have to say besides that it still holds the same one.
 #[derive(Clone, Copy)]
 pub struct Problem<'a> {
     pub frame: Frame,

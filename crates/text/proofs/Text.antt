@@ -7,16 +7,17 @@ use Prim.Native.Nat.{ℕ, zero, suc, ◌+◌, ◌-◌, ◌≤◌, ◌<◌}
 use native.Mathlib.Decide.{ℕ_discrete}
 use native.Mathlib.Numerals.{add-one}
 use native.Mathlib.Omega.{arith}
-use lib.Dec.{eqb}
+use lib.Dec.{eqb, leb}
 use lib.ListN.{length, get_or, take, drop, length-take, length-drop}
 use lib.Seq.{drop-cons, get_or-take, get_or-drop}
-use borrow.Author.Tests.{lt-ltb, le-ltb, ltb-true, ltb-false, le-leb, lt-leb, eq-eqb, ne_eqb}
+use borrow.Author.Tests.{lt-ltb, le-ltb, ltb-true, ltb-false, le-leb, leb-true, eq-eqb, ne_eqb}
 use Rattle.std.specs.Prelude.{Option, Some, None, position}
 use Rattle.std.specs.List.{position_or_len}
 use Rattle.std.specs.Option.{unwrap_or}
 use Rattle.std.proofs.lemmas.List.Recursion.{is_position_or_len}
 use Rattle.std.proofs.lemmas.Option.{cond_some, none-some}
 use Rattle.text.specs.Text.{before, until, beyond, ahead, next_line, count, all}
+use Rattle.text.proofs.Tests.{cond_true}
 
 -- ---- by the first byte
 
@@ -262,18 +263,17 @@ line_none t e = none_test (ahead 10 t) (until 10 t) e
 
 -- ---- every byte in a range
 
-module _ (lo hi b : ℕ) (t : List ℕ) where
-  pub all_low : b < lo → all lo hi (b ∷ t) ≡ false
-  unfolding all
-  all_low h = simp (lt-leb lo b h)
+pub all_on : (lo hi b : ℕ) (t : List ℕ) → lo ≤ b → b ≤ hi → all lo hi (b ∷ t) ≡ all lo hi t
+unfolding all
+all_on lo hi b t k h = simp (le-leb lo b k, le-leb b hi h)
 
-  pub all_high : lo ≤ b → hi < b → all lo hi (b ∷ t) ≡ false
-  unfolding all
-  all_high k h = simp (le-leb lo b k, lt-leb b hi h)
-
-  pub all_on : lo ≤ b → b ≤ hi → all lo hi (b ∷ t) ≡ all lo hi t
-  unfolding all
-  all_on k h = simp (le-leb lo b k, le-leb b hi h)
+-- The first byte of a range, and the others.
+pub all_first : (lo hi c : ℕ) (t : List ℕ) → all lo hi (c ∷ t) ≡ true → (lo ≤ c) × (c ≤ hi) × (all lo hi t ≡ true)
+unfolding all
+all_first lo hi c t a =
+    let k = cond_true (leb lo c) _ a in
+    let h = cond_true (leb c hi) _ k.1 in
+    (leb-true _ _ k.0, leb-true _ _ h.0, h.1)
 
 pub all_none : (lo hi : ℕ) → all lo hi [] ≡ true
 unfolding all

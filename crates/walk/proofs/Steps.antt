@@ -19,7 +19,7 @@ use Rattle.frame.proofs.Walk.{first_same, alike_cell, least_alike, plan_alike, G
 use Rattle.run.specs.Run.{state_of}
 use Rattle.run.specs.declared.Run.{Run}
 use Rattle.store.specs.declared.Store.{Store}
-use Rattle.table.specs.declared.Frame.{Frame}
+use Rattle.table.specs.declared.axes.Frame.{Frame}
 use Rattle.step.specs.Store.{Rests}
 use Rattle.step.proofs.Store.{rests}
 use Rattle.table.specs.Table.{Axes, Framed, AtCell, Holds}

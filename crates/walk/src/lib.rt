@@ -16,12 +16,11 @@ use table::{Frame, Problem};
 
 // The cell to which a run is raised.
 fn raise_run(f: Frame, b: Run) -> Run
-    requires { Raises f b }
+    requires { Raises b }
     ensures { state_of result ≡ fresh b.done b.level (raise f.head.energy_step b.energy) (raise f.head.temperature_step b.temperature) }
 {
-    let energy = table::ceil_div(b.energy as u32, f.head.energy_step) * f.head.energy_step;
-    let temperature = table::ceil_div(b.temperature as u32, f.head.temperature_step)
-        * f.head.temperature_step;
+    let energy = f.energy_cell(b.energy as u32) * f.head.energy_step;
+    let temperature = f.temperature_cell(b.temperature as u32) * f.head.temperature_step;
     Run::fresh(b.done, b.level, energy as u64, temperature as u64)
 }
 

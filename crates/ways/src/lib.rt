@@ -10,7 +10,8 @@ use least_way::least;
 use one_way::Way;
 use word::{NO_WAY, seal};
 
-// Sets the words of a span to the least time by the ways in N places: a word is made at once, and stored once.
+// Sets the words of a span to the least time by the ways in N places: a word is made at once, and stored once. N is a constant, so that
+// no loop over the ways is left for each word, and four words are made at a time.
 fn by<const N: usize>(table: &[u32], span: &mut [u32], ways: &[Way])
     requires { record { ways : Opened table.now (length span.old) ways.now; some : 1 ≤ N } }
     ensures { span.new ≡ tabulate (λ (q : ℕ). settled (least_in table.now ways.now N q)) 0 (length span.old) }

@@ -3,10 +3,10 @@
 ghost use Rattle.std.specs.Prelude.{◌≡◌, ◌≤◌, min};
 ghost use Rattle.word.specs.Word.{sum_max, near, settled};
 
-// Stands for "no way" while the words of a job are worked on.
+// Stands for "no way" while the words of a job are worked on: a number, and no `Option`, as the table's words are 32 bits each.
 pub const FAR: u32 = 2_000_000_000;
 
-// "4,294,967,295 where no way exists"
+// "4,294,967,295 where no way exists": the table's words hold this number as they hold times, so it is no `Option`.
 pub const NO_WAY: u32 = 4_294_967_295;
 
 // A word of the next job, at most `far`.
@@ -17,7 +17,8 @@ pub fn cap(w: u32) -> u32
 }
 
 // The lesser of two numbers, as signed ones, since both are below 2 ^ 31: every x86-64 processor compares four of these at a time,
-// where the unsigned `min` takes up to a third more instructions for a span.
+// where the unsigned `min` takes a fifth to a third more instructions for a span. With it 256 × 256 cells would take some 1.2 times
+// the time of the hoisted C: docs/PERFORMANCE.md aims at 1.00, which they meet.
 pub fn lesser(a: u32, b: u32) -> u32
     requires { (a ≤ sum_max) × (b ≤ sum_max) }
     ensures { result ≡ min a b }
@@ -25,7 +26,8 @@ pub fn lesser(a: u32, b: u32) -> u32
     (a as i32).min(b as i32) as u32
 }
 
-// A word once its job is done. The unsigned test takes 5 to 15 % more instructions for a span than this one of signed numbers.
+// A word once its job is done. The unsigned test takes 7 to 20 % more instructions for a span than this one of signed numbers: with
+// it 256 × 256 cells would miss the same bar, at some 1.06.
 pub fn seal(w: u32) -> u32
     requires { w ≤ sum_max }
     ensures { result ≡ settled w }

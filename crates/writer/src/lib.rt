@@ -5,7 +5,8 @@ ghost use Rattle.std.specs.Prelude.{[], ◌∷◌, ◌+◌, ◌≤◌, ◌<◌, 
 ghost use Rattle.writer.specs.Decimal.{decimal, field, number_end, field_max};
 ghost use Rattle.writer.specs.Written.{Writes, Room};
 
-// A part that is lent, and the place of the byte that is written next.
+// A part that is lent, and the place of the byte that is written next. Not only the part that is left: contracts speak of all bytes that
+// are lent, those before the place too, and the length that a call hands back is the place.
 #[derive(Drop)]
 pub struct Writer<'a> {
     pub part: &'a mut [u8],
@@ -32,7 +33,7 @@ impl Writer<'_> {
         }
     }
 
-    // A number in base ten: the digits of its tenth, and then its last digit. The library's `itoa` does it by a table of digits, which
+    // A number in base ten: the digits of its tenth, and then its last digit. The toolchain's crate `itoa` does it by a table of digits, which
     // takes three times the code.
     pub fn number(&mut self, n: u64)
         requires { Room self.old (length (decimal n)) }

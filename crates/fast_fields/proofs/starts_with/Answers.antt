@@ -1,23 +1,13 @@
--- `starts_with` answers as the definition does, by the room and the first two bytes.
-use mathlib.Core.Path.{refl, sym, ◌∙◌}
-use borrow.Author.Rules.{rules}
-use borrow.Author.Tests.{le-leb}
+-- `starts_with` answers as the definition does, by the room and the library's test of the first two bytes.
+use mathlib.Core.Path.{refl, ◌∙◌}
+use borrow.Author.Tests.{lt-leb}
 use Rattle.fast_fields.specs.Take.{starts}
-use Rattle.fast_fields.proofs.starts_with.Goals.{then-room-t, else-room-t}
+use Rattle.fast_fields.proofs.Line.{starts_test}
 use Rattle.fast_fields.proofs.starts_with.Goals as goal
 
-pub returns-then-t-letter : goal.returns-then-t-letter
-unfolding starts
-returns-then-t-letter c =
-    elim c.if-room-t.branch [
-      | then-room-t w ↦ rw (le-leb _ _ w.if-room-t.true, sym w.value-is ∙ c.if-t-letter.true) refl
-      | else-room-t w ↦ rw (sym w.value-is ∙ c.if-t-letter.true) search rules
-    ]
+pub returns-then-room-t : goal.returns-then-room-t
+returns-then-room-t c = c.starts_with.ensures.value ∙ starts_test _ _ _ c.requires c.if-room-t.true
 
-pub returns-else-t-letter : goal.returns-else-t-letter
+pub returns-else-room-t : goal.returns-else-room-t
 unfolding starts
-returns-else-t-letter c =
-    elim c.if-room-t.branch [
-      | then-room-t w ↦ rw (le-leb _ _ w.if-room-t.true, sym w.value-is ∙ c.if-t-letter.false) c.if-t-letter.false
-      | else-room-t w ↦ rw (sym w.value-is ∙ c.if-t-letter.false) c.if-t-letter.false
-    ]
+returns-else-room-t c = rw (lt-leb _ _ c.if-room-t.false) refl

@@ -1,28 +1,35 @@
--- `opens_with` answers as the definition does, by the line's first two bytes and its count of bytes 9.
+-- `opens_with` answers as the definition does, by the place of the line's first byte 9, its first byte and its count of bytes 9.
 use mathlib.Core.Path.{ap, sym, ◌∙◌}
-use mathlib.Core.Logic.{inl, inr}
 use Prim.Native.Nat.{ℕ}
+use native.Mathlib.Omega.{arith}
 use lib.Dec.{eqb}
-use Rattle.fields.proofs.Fields.{some_bytes, opens_empty, opens_other, opens_longer, opens_count}
-use Rattle.fields.proofs.opens_with.Goals.{then-is_empty-via-then-is_empty, then-is_empty-via-else-is_empty+then-s-letter, else-s-gt1-via-then-s-gt1+else-s-ne-TAB, else-s-gt1-via-else-s-gt1}
+use borrow.Author.Tests.{eq-eqb, ne_eqb}
+use Rattle.text.proofs.Tests.{clash}
+use Rattle.text.proofs.Text.{before_le}
+use Rattle.fields.specs.Fields.{opens}
+use Rattle.fields.proofs.opens_with.Goals.{then-letters-eq1, else-letters-eq1}
 use Rattle.fields.proofs.opens_with.Goals as goal
 
-pub returns-then-is_empty : goal.returns-then-is_empty
-returns-then-is_empty c =
-    elim c.then-is_empty.branch [
-      | then-is_empty-via-then-is_empty w ↦ sym (opens_empty _ _ _ (sym c.is_empty.ensures ∙ w.if-is_empty.true))
-      | then-is_empty-via-else-is_empty+then-s-letter w ↦
-          sym (opens_other _ _ _ (some_bytes _ (sym c.is_empty.ensures ∙ w.if-is_empty.false)) w.if-s-letter.true)
+pub bounds-line-0 : goal.bounds-line-0
+bounds-line-0 c = omega (arith, c.find-letters.ensures, c.if-letters-eq1.true, before_le 9 c.args.line.bytes.now)
+
+pub returns-then-line-letter : goal.returns-then-line-letter
+unfolding opens
+returns-then-line-letter c =
+    elim c.if-letters-eq1.branch [
+      | then-letters-eq1 w ↦
+          rw (eq-eqb _ _ (sym c.find-letters.ensures ∙ w.if-letters-eq1.true), sym w.value-is ∙ c.if-line-letter.true)
+          (ap (λ (m : ℕ). eqb m c.args.k) c.args.line.counted)
+      | else-letters-eq1 w ↦
+          let z = clash (sym c.if-line-letter.true ∙ w.value-is ∙ ne_eqb _ _ w.if-letters-eq1.false) in
+          absurd (omega arith)
     ]
 
-pub returns-then-s-ne-TAB : goal.returns-then-s-ne-TAB
-returns-then-s-ne-TAB c = sym (opens_longer _ _ c.requires _ c.if-s-letter.false c.if-s-gt1.true c.if-s-ne-TAB.true)
-
-pub returns : goal.returns
-returns c =
-    ap (λ (m : ℕ). eqb m c.args.k) c.args.line.counted
-    ∙ sym (opens_count _ _ c.requires _ (some_bytes _ (sym c.is_empty.ensures ∙ c.if-is_empty.false)) c.if-s-letter.false
-    (elim c.else-s-gt1.branch [
-      | else-s-gt1-via-then-s-gt1+else-s-ne-TAB w ↦ inr w.if-s-ne-TAB.false
-      | else-s-gt1-via-else-s-gt1 w ↦ inl w.if-s-gt1.false
-    ]))
+pub returns-else-line-letter : goal.returns-else-line-letter
+unfolding opens
+returns-else-line-letter c =
+    elim c.if-letters-eq1.branch [
+      | then-letters-eq1 w ↦
+          rw (eq-eqb _ _ (sym c.find-letters.ensures ∙ w.if-letters-eq1.true), sym w.value-is ∙ c.if-line-letter.false) c.if-line-letter.false
+      | else-letters-eq1 w ↦ rw (ne_eqb _ _ (λ e. w.if-letters-eq1.false (c.find-letters.ensures ∙ e))) c.if-line-letter.false
+    ]

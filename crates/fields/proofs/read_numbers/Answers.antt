@@ -1,11 +1,9 @@
 -- `read_numbers` gives what the definition says: what is read stands in front of the numbers that are left.
 use mathlib.Core.Path.{◌≡◌, sym, ◌∙◌}
-use Prim.Native.Nat.{◌<◌}
 use native.Mathlib.Omega.{arith}
 use lib.ListN.{length, length-replicate}
 use borrow.Author.Rules.{rules}
-use Rattle.fields.proofs.Fields.{reading_none, reading_all, reading_form, reading_low, reading_high, reading_on}
-use Rattle.fields.proofs.read_numbers.Goals.{then-number-range-via-then-number-range, then-number-range-via-else-number-range+then-range-number}
+use Rattle.fields.proofs.Fields.{reading_none, reading_all, reading_form, reading_out, reading_on}
 use Rattle.fields.proofs.read_numbers.Goals as goal
 
 pub loop-j-init : goal.loop-j-init
@@ -18,20 +16,18 @@ returns-in_default g c =
     let l : length c.args.ranges ≡ g.row.N = search rules in
     reading_form c.loop-j.invariant (omega (arith, l, c.loop-j-test.true)) c.in_default.ensures
 
-pub returns-then-number-range : goal.returns-then-number-range
-returns-then-number-range g c =
+pub returns-then-not-contains : goal.returns-then-not-contains
+returns-then-not-contains g c =
     let l : length c.args.ranges ≡ g.row.N = search rules in
-    let h : c.loop-j.j < length c.args.ranges = omega (arith, l, c.loop-j-test.true) in
-    elim c.then-number-range.branch [
-      | then-number-range-via-then-number-range w ↦ reading_low c.loop-j.invariant h _ _ c.in-Some.ensures w.if-number-range.true
-      | then-number-range-via-else-number-range+then-range-number w ↦
-          reading_high c.loop-j.invariant h _ _ c.in-Some.ensures w.if-number-range.false w.if-range-number.true
-    ]
+    reading_out c.loop-j.invariant (omega (arith, l, c.loop-j-test.true)) _ _ c.in-Some.ensures (sym c.contains.ensures.whole ∙ c.if-not-contains.true)
+
+pub overflow_cast-values : goal.overflow_cast-values
+overflow_cast-values g c = let h = c.contains.ensures.small c.if-not-contains.false in omega (arith, h)
 
 pub loop-j-preserved : goal.loop-j-preserved
 loop-j-preserved g c =
     let l : length c.args.ranges ≡ g.row.N = search rules in
-    reading_on c.loop-j.invariant (omega (arith, l, c.loop-j-test.true)) _ _ c.in-Some.ensures c.if-number-range.false c.if-range-number.false
+    reading_on c.loop-j.invariant (omega (arith, l, c.loop-j-test.true)) _ _ c.in-Some.ensures (sym c.contains.ensures.whole ∙ c.if-not-contains.false)
 
 pub returns : goal.returns
 returns g c =

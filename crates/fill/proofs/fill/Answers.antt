@@ -1,5 +1,5 @@
 -- The table is filled, by an invariant of the jobs that are filled, from the last to the first (`Filling`).
-use mathlib.Core.Path.{◌≡◌, refl, sym, ap, subst, ◌∙◌}
+use mathlib.Core.Path.{◌≡◌, sym, ap, subst, ◌∙◌}
 use Prim.Native.Nat.{ℕ, ◌-◌}
 use native.Mathlib.Omega.{arith}
 use Rattle.table.specs.Table.{base}
@@ -14,17 +14,12 @@ loop-i-init c =
     let p = c.args.problem.now in
     let s = sheet_for p in
     let z : base s p.frame.head.jobs 0 ≡ base s s.jobs 0 = ap (λ (n : ℕ). base s n 0) p.framed.axes.jobs in
-    record { moves_long = refl; filled = subst (λ (k : ℕ). FilledFrom s k c.args.table.now c.args.table.now) (sym (z ∙ base_need s)) (filled_none s _) }
+    subst (λ (k : ℕ). FilledFrom s k c.args.table.now c.args.table.now) (sym (z ∙ base_need s)) (filled_none s _)
 
 pub loop-i-preserved : goal.loop-i-preserved
 loop-i-preserved c =
     let l = c.loop-i in
-    let w = c.fill_job in
-    let s = sheet_for c.args.problem.now in
-    record {
-      moves_long = omega (arith, w.auto, l.invariant.moves_long);
-      filled = filled_trans (base_mono s (l.i - 1) l.i (omega arith)) l.invariant.filled w.ensures;
-    }
+    filled_trans (base_mono (sheet_for c.args.problem.now) (l.i - 1) l.i (omega arith)) l.invariant c.fill_job.ensures
 
 pub returns : goal.returns
 returns c =
@@ -32,4 +27,4 @@ returns c =
     let l = c.loop-i in
     let s = sheet_for p in
     let z : l.i ≡ 0 = omega arith in
-    filled_all s _ _ c.requires (subst (λ (k : ℕ). FilledFrom s k c.args.table.now l.table) (ap (λ (n : ℕ). base s n 0) z ∙ base_zero s) l.invariant.filled)
+    filled_all s _ _ c.requires (subst (λ (k : ℕ). FilledFrom s k c.args.table.now l.table) (ap (λ (n : ℕ). base s n 0) z ∙ base_zero s) l.invariant)

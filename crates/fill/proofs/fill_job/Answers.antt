@@ -27,10 +27,10 @@ invariant_of-layer c =
     let a = c.requires in
     let g = c.args.problem.now.framed.axes in
     let i = c.args.i in
-    let m = c.find_moves in
+    let m = c.find_moves.ensures in
     record {
-      moving = moving_by _ g.ranges i a.job m.ensures g.levels (cells_by g) (start_is g i) (omega (arith, a.moves_room, m.auto));
-      small = omega (arith, room_by _ g.ranges i a.job m.ensures g.levels (cells_by g) (start_is g i), g.allowed);
+      moving = moving_by _ g.ranges i a.job m g.levels (cells_by g) (start_is g i);
+      small = omega (arith, room_by _ g.ranges i a.job m g.levels (cells_by g) (start_is g i), g.allowed);
     }
 
 pub relax_words-requires : goal.relax_words-requires

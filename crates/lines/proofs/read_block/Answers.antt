@@ -8,11 +8,11 @@ use Rattle.reading.proofs.Next.{line_read}
 use Rattle.reading.proofs.Rest.{read_by}
 use Rattle.line_kinds.specs.Figures.{fields_for}
 use Rattle.line_kinds.proofs.Figures.{entry_place}
-use Rattle.lines.proofs.Lines.{block_all, block_stop, block_on}
+use Rattle.lines.proofs.Lines.{block_all, block_stop, block_on, block_taken}
 use Rattle.lines.proofs.read_block.Goals as goal
 
 pub loop-j-init : goal.loop-j-init
-loop-j-init c = c.take_lines-taken.ensures
+loop-j-init c = block_taken _ _ _ _ _ c.take_lines-taken.ensures
 
 pub returns-in_err-entry : goal.returns-in_err-entry
 returns-in_err-entry c =

@@ -1,18 +1,17 @@
--- `take_lines` takes what the definition says: a line that `take_line` takes is the next line of its kind.
-use mathlib.Core.Path.{◌≡◌, sym, ◌∙◌}
+-- `take_lines` takes what the definition takes, line by line.
+use mathlib.Core.Path.{◌≡◌, refl, sym, ◌∙◌}
 use native.Mathlib.Omega.{arith}
 use Rattle.text.proofs.Text.{ahead_lt}
-use Rattle.reading.proofs.Rest.{next_taken}
 use Rattle.line_kinds.proofs.Figures.{entry_place}
 use Rattle.fast_lines.proofs.Entries.{entry_at}
-use Rattle.lines.proofs.Lines.{block_none, block_on}
+use Rattle.lines.proofs.Lines.{taken_none, taken_all, taken_other, taken_on}
 use Rattle.lines.proofs.take_lines.Goals as goal
 
 pub loop-j-init : goal.loop-j-init
-loop-j-init c = block_none _ _ _ _
+loop-j-init c = taken_none _ _ _ _
 
 pub returns-in_default : goal.returns-in_default
-returns-in_default c = c.loop-j.invariant
+returns-in_default c = sym (c.loop-j.invariant ∙ taken_other _ _ _ _ _ c.loop-j-test.true c.in_default.ensures)
 
 pub put_entry-requires : goal.put_entry-requires
 put_entry-requires c =
@@ -24,9 +23,10 @@ behind-place-requires c =
 
 pub loop-j-preserved : goal.loop-j-preserved
 loop-j-preserved c =
-    let z = entry_at _ _ _ c.in-Some.ensures in
     rw (c.behind-place.ensures, c.put_entry.ensures)
-    (c.loop-j.invariant ∙ block_on _ _ _ _ _ c.loop-j-test.true _ _ (sym (next_taken _ _ _ _ z.0 z.1 z.2)))
+    (c.loop-j.invariant ∙ taken_on _ _ _ _ _ c.loop-j-test.true _ _ c.in-Some.ensures)
 
 pub returns : goal.returns
-returns c = let all : c.loop-j.j ≡ c.args.n = omega arith in rw all at c.loop-j.invariant
+returns c =
+    let all : c.loop-j.j ≡ c.args.n = omega arith in
+    sym (c.loop-j.invariant ∙ taken_all _ _ _ _ _ c.loop-j-test.false ∙ rw all refl)

@@ -6,7 +6,8 @@ use native.Mathlib.Omega.{arith}
 use Rattle.thermal.specs.Rounding.{ceil_div}
 use Rattle.frame.specs.Table.{words_max}
 use Rattle.run.specs.declared.Run.{Run}
-use Rattle.table.specs.declared.Frame.{Frame}
+use Rattle.table.specs.declared.axes.Frame.{Frame}
+use Rattle.table.proofs.Frames.{rows_some, columns_some}
 use Rattle.lookup.specs.Lookup.{Steps, place_by}
 use Rattle.lookup.proofs.place_of.Goals as goal
 
@@ -21,21 +22,21 @@ unfolding place_by
 parts {f} {b} {a} {t} s p q =
     let k : ((b.done * f.head.levels + b.level) * f.energy_cells + a) * f.temperature_cells + t < words_max = rw (p, q) s.allowed in
     let o : (b.done * f.head.levels + b.level) * f.energy_cells + a < words_max =
-    omega (arith, k, le-mul_of_pos_right ((b.done * f.head.levels + b.level) * f.energy_cells + a) s.temperature_count) in
-    record { job_level = omega (arith, o, le-mul_of_pos_right (b.done * f.head.levels + b.level) s.energy_count); energy_row = o; whole = k }
+    omega (arith, k, le-mul_of_pos_right ((b.done * f.head.levels + b.level) * f.energy_cells + a) (columns_some f)) in
+    record { job_level = omega (arith, o, le-mul_of_pos_right (b.done * f.head.levels + b.level) (rows_some f)); energy_row = o; whole = k }
 
 pub overflow_mul-result : goal.overflow_mul-result
-overflow_mul-result c = omega (arith, parts c.requires c.ceil_div-a.ensures c.ceil_div-t.ensures)
+overflow_mul-result c = omega (arith, parts c.requires c.energy_cell-a.ensures c.temperature_cell-t.ensures)
 
 pub overflow_add-result : goal.overflow_add-result
-overflow_add-result c = omega (arith, parts c.requires c.ceil_div-a.ensures c.ceil_div-t.ensures)
+overflow_add-result c = omega (arith, parts c.requires c.energy_cell-a.ensures c.temperature_cell-t.ensures)
 
 pub overflow_mul-result-2 : goal.overflow_mul-result-2
-overflow_mul-result-2 c = omega (arith, parts c.requires c.ceil_div-a.ensures c.ceil_div-t.ensures)
+overflow_mul-result-2 c = omega (arith, parts c.requires c.energy_cell-a.ensures c.temperature_cell-t.ensures)
 
 pub overflow_add-result-2 : goal.overflow_add-result-2
-overflow_add-result-2 c = omega (arith, parts c.requires c.ceil_div-a.ensures c.ceil_div-t.ensures)
+overflow_add-result-2 c = omega (arith, parts c.requires c.energy_cell-a.ensures c.temperature_cell-t.ensures)
 
 pub returns : goal.returns
 unfolding place_by
-returns c = cc (c.ceil_div-a.ensures, c.ceil_div-t.ensures)
+returns c = cc (c.energy_cell-a.ensures, c.temperature_cell-t.ensures)

@@ -1,7 +1,12 @@
--- The moves of a job, one by one.
+-- The moves of a job, level by level left.
+use Prim.Native.Nat.{ℕ, ◌<◌}
+use mathlib.Core.Path.{◌≡◌}
 use Rattle.table.specs.Problem.{sheet_for}
-use Rattle.moves.specs.Moves.{Moves}
+use Rattle.open_ways.specs.Moves.{move_at}
+use Rattle.moves.specs.Moves.{move_of}
 use Rattle.moves.proofs.find_moves.Given as goal
 
-abbrev pub invariant-loop-u : goal.invariant-loop-u
-invariant-loop-u l = Moves (sheet_for l.problem) l.i l.u l.m-items
+abbrev pub invariant-loop-p : goal.invariant-loop-p
+invariant-loop-p l =
+    let s = sheet_for l.problem in
+    (k j : ℕ) → k < l.p → j < s.levels → move_at l.row-items k j ≡ move_of s l.i k j

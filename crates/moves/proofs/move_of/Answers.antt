@@ -6,13 +6,13 @@ use Rattle.frame.specs.Run.{State, step}
 use Rattle.table.specs.Problem.{sheet_for}
 use Rattle.run.specs.Run.{state_of}
 use Rattle.step.proofs.Store.{rests}
-use Rattle.table.proofs.Cells.{width_small}
+use Rattle.table.proofs.Frames.{columns_most}
 use Rattle.moves.specs.Moves.{moved, move_of}
-use Rattle.moves.proofs.Reach.{moved_time, moved_energy}
-use Rattle.moves.proofs.Figures.{move_none, move_some, move_small, counts}
+use Rattle.moves.proofs.Reach.{moved_time}
+use Rattle.moves.proofs.Figures.{move_none, move_some, move_small}
 use Prim.Native.Nat.{ℕ, ◌-◌, ◌+◌, ◌/◌}
 use Rattle.thermal.specs.Rounding.{ceil_div}
-use Rattle.table.specs.declared.Frame.{Frame}
+use Rattle.table.specs.declared.axes.Frame.{Frame}
 use Rattle.table.specs.Table.{Axes}
 use Rattle.frame.specs.Sheet.{Sheet}
 use Rattle.frame.specs.Run.{fresh}
@@ -48,32 +48,25 @@ returns-then-f-b c =
     move_none c.args.problem.now.framed.axes _ _ _ _ _ (ap (λ (q : State). q.energy) m) (ap (λ (q : State). q.time) m) c.if-f-b.true
 
 pub overflow_cast-width : goal.overflow_cast-width
-overflow_cast-width c = omega (arith, width_small c.args.problem.now.framed.axes)
-
-pub ceil_div-up-requires : goal.ceil_div-up-requires
-ceil_div-up-requires c =
-    let g = c.args.problem.now.framed.axes in
-    let m = moves (sheet_for c.args.problem.now) c.args.i c.args.p c.args.j (c.next_job-b.ensures _ c.args.problem.now.framed.stored) c.fresh.ensures in
-    let e = moved_energy _ g.ranges c.args.i c.args.p c.args.j in
-    record { value = omega (arith, ap (λ (q : State). q.energy) m, e); step = omega (arith, g.energy_step, g.ranges.energy_step.low); step_most = omega (arith, g.energy_step, g.ranges.energy_step.high) }
+overflow_cast-width c = omega (arith, columns_most c.args.problem.now.frame)
 
 pub lawful_rows-rows-requires : goal.lawful_rows-rows-requires
-lawful_rows-rows-requires c = counts c.args.problem.now.framed.axes _ _ c.if-f-b.false c.ceil_div-up.ensures
+lawful_rows-rows-requires c = record { enough = c.if-f-b.false; raised = c.energy_cell-up.ensures }
 
 pub overflow_mul-shift : goal.overflow_mul-shift
 overflow_mul-shift c =
     let m = moves (sheet_for c.args.problem.now) c.args.i c.args.p c.args.j (c.next_job-b.ensures _ c.args.problem.now.framed.stored) c.fresh.ensures in
-    let w = some_move c.args.problem.now.framed.axes c.args.i c.args.p c.args.j _ m c.if-f-b.false _ _ c.ceil_div-up.ensures c.lawful_rows-rows.ensures in
+    let w = some_move c.args.problem.now.framed.axes c.args.i c.args.p c.args.j _ m c.if-f-b.false _ _ c.energy_cell-up.ensures c.lawful_rows-rows.ensures in
     omega (arith, move_small c.args.problem.now.framed.axes c.args.i c.args.p c.args.j _ w)
 
 pub overflow_mul-reach : goal.overflow_mul-reach
 overflow_mul-reach c =
     let m = moves (sheet_for c.args.problem.now) c.args.i c.args.p c.args.j (c.next_job-b.ensures _ c.args.problem.now.framed.stored) c.fresh.ensures in
-    let w = some_move c.args.problem.now.framed.axes c.args.i c.args.p c.args.j _ m c.if-f-b.false _ _ c.ceil_div-up.ensures c.lawful_rows-rows.ensures in
+    let w = some_move c.args.problem.now.framed.axes c.args.i c.args.p c.args.j _ m c.if-f-b.false _ _ c.energy_cell-up.ensures c.lawful_rows-rows.ensures in
     omega (arith, move_small c.args.problem.now.framed.axes c.args.i c.args.p c.args.j _ w)
 
 pub returns : goal.returns
 returns c =
     let m = moves (sheet_for c.args.problem.now) c.args.i c.args.p c.args.j (c.next_job-b.ensures _ c.args.problem.now.framed.stored) c.fresh.ensures in
-    let w = some_move c.args.problem.now.framed.axes c.args.i c.args.p c.args.j _ m c.if-f-b.false _ _ c.ceil_div-up.ensures c.lawful_rows-rows.ensures in
+    let w = some_move c.args.problem.now.framed.axes c.args.i c.args.p c.args.j _ m c.if-f-b.false _ _ c.energy_cell-up.ensures c.lawful_rows-rows.ensures in
     w

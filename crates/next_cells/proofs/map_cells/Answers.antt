@@ -8,10 +8,10 @@ use Rattle.frame.specs.Sheet.{Sheet}
 use Rattle.frame.specs.Run.{State, step}
 use Rattle.frame.specs.Table.{temperature_cells}
 use Rattle.frame.proofs.Tabulate.{tabulated}
-use Rattle.table.specs.declared.Frame.{Frame}
+use Rattle.table.specs.declared.axes.Frame.{Frame}
 use Rattle.table.specs.Table.{Axes}
 use Rattle.step.proofs.Store.{rests}
-use Rattle.table.proofs.Cells.{cell_temperature, width_small}
+use Rattle.table.proofs.Cells.{cell_temperature}
 use Rattle.spans.proofs.Stepping.{spans_more}
 use Rattle.table.specs.Problem.{sheet_for}
 use Rattle.next_cells.specs.Next.{warmed}
@@ -33,7 +33,7 @@ warms c =
     ∙ ap (λ (h : ℕ). warmed s a.i a.j (c.loop-b.b * h)) g.axes.temperature_step
 
 pub nonzero_div-multiplier : goal.nonzero_div-multiplier
-nonzero_div-multiplier c = let g = c.args.problem.now.framed.axes in omega (arith, g.temperature_step, g.ranges.temperature_step.low)
+nonzero_div-multiplier c = omega (arith, c.args.problem.now.frame.bounded.temperature_step.low)
 
 pub overflow_mul-b : goal.overflow_mul-b
 overflow_mul-b c = omega (arith, warm_small c.args.problem.now.framed.axes c.requires.whole c.loop-b-test.true)
@@ -47,15 +47,7 @@ next_job-after-requires c =
     rests g.stored _ _ ok (omega (arith, ap (λ (q : State). q.done) z, a.job, ok.jobs.high)) (omega (arith, ap (λ (q : State). q.level) z, a.level, ok.levels.high)) (omega (arith, a.level, ok.levels.high)) (omega (arith, ap (λ (q : State). q.time) z)) (omega (arith, ap (λ (q : State). q.energy) z)) (omega (arith, ap (λ (q : State). q.temperature) z, warm_small g.axes a.whole c.loop-b-test.true))
 
 pub cell_of-requires : goal.cell_of-requires
-cell_of-requires c =
-    let g = c.args.problem.now.framed.axes in
-    record {
-      limit = omega (arith, g.temperature_limit, g.ranges.temperature_limit);
-      step = omega (arith, g.temperature_step, g.ranges.temperature_step.low);
-      step_most = omega (arith, g.temperature_step, g.ranges.temperature_step.high);
-      columns = width_small g;
-      scaled = refl;
-    }
+cell_of-requires c = refl
 
 pub loop-b-preserved : goal.loop-b-preserved
 loop-b-preserved c =

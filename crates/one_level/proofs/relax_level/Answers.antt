@@ -1,8 +1,6 @@
 -- Span by span: the ways that are open to it make its words, and they are what the definition says of all moves.
-use mathlib.Core.Path.{◌∙◌}
-use Prim.Native.Nat.{◌≤◌}
 use native.Mathlib.Omega.{arith}
-use lib.ListN.{length, length-take, length-drop}
+use lib.ListN.{length-take, length-drop}
 use Rattle.frame.proofs.Tabulate.{tabulated}
 use Rattle.one_level.proofs.Spanning.{lows_later, span_more, open_least, open_leads}
 use Rattle.one_level.proofs.relax_level.Goals as goal
@@ -11,21 +9,18 @@ pub take_span-requires : goal.take_span-requires
 take_span-requires c =
     let a = c.requires in
     let l = c.loop-y.invariant in
-    let f = c.find_ways-s.ensures in
-    open_leads (omega (arith, f.opened.few, f.long, l.long, c.args.layer.now.moving.most)) a.job.inside (lows_later l.low a.job.lows) f.opened
-    (simp (length-take, length-drop) (omega (arith, f.opened.some, f.opened.within, l.low, c.loop-y.auto.words)))
+    let o = c.find_ways-span.ensures in
+    open_leads a.job.inside (lows_later l.low a.job.lows) o (simp (length-take, length-drop) (omega (arith, o.some, o.within, l.low, c.loop-y.auto.words)))
 
 pub loop-y-preserved : goal.loop-y-preserved
 loop-y-preserved c =
-    let f = c.find_ways-s.ensures in
     let l = c.loop-y.invariant in
-    let few : c.find_ways-s.result.count ≤ length c.find_ways-s.new.ways = omega (arith, f.opened.few, f.long, l.long, c.args.layer.now.moving.most) in
+    let o = c.find_ways-span.ensures in
     record {
-      low = omega (arith, f.opened.some, l.low);
-      most = f.opened.within;
-      long = f.long ∙ l.long;
-      done = span_more c.loop-y.words _ l.low f.opened.some (omega (arith, f.opened.within, c.loop-y.auto.words)) (omega arith) (omega (arith, l.low)) l.done
-          (open_least c.args.table.now c.args.x l.low few f.opened) c.take_span.ensures;
+      low = omega (arith, o.some, l.low);
+      most = o.within;
+      done = span_more c.loop-y.words _ l.low o.some (omega (arith, o.within, c.loop-y.auto.words)) (omega arith) (omega (arith, l.low)) l.done
+          (open_least c.args.table.now c.args.x l.low o) c.take_span.ensures;
     }
 
 pub returns : goal.returns

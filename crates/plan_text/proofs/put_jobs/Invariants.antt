@@ -3,4 +3,4 @@ use Rattle.plan_text.proofs.Writing.{Writing}
 use Rattle.plan_text.proofs.put_jobs.Given as goal
 
 abbrev pub invariant-loop-level : goal.invariant-loop-level
-invariant-loop-level l = Writing l.s l.fn.head l.store l.levels l.initial.writer l.writer l.run l.rest l.level-index
+invariant-loop-level l = Writing l.s l.fn.sheet l.levels l.initial.writer l.writer l.run l.rest l.level-index

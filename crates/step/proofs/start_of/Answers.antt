@@ -4,4 +4,4 @@ use Rattle.step.proofs.start_of.Goals as goal
 
 pub returns : goal.returns
 unfolding sheet_of
-returns c = λ store. c.start.ensures
+returns c = λ store. c.fresh.ensures

@@ -16,10 +16,10 @@ small : (g x q : ℕ) → q ≡ ceil_div x g → q * g ≤ x + (g - 1)
 small g x q e = omega (arith, raised g x q e, raise_le g x)
 
 pub overflow_mul-energy : goal.overflow_mul-energy
-overflow_mul-energy c = omega (arith, small _ _ _ c.ceil_div.ensures, c.requires)
+overflow_mul-energy c = omega (arith, small _ _ _ c.energy_cell.ensures, c.requires.energy, c.args.f.bounded.energy_step)
 
 pub overflow_mul-temperature : goal.overflow_mul-temperature
-overflow_mul-temperature c = omega (arith, small _ _ _ c.ceil_div-2.ensures, c.requires)
+overflow_mul-temperature c = omega (arith, small _ _ _ c.temperature_cell.ensures, c.requires.temperature, c.args.f.bounded.temperature_step)
 
 pub returns : goal.returns
-returns c = c.fresh.ensures ∙ ap₂ (fresh _ _) (raised _ _ _ c.ceil_div.ensures) (raised _ _ _ c.ceil_div-2.ensures)
+returns c = c.fresh.ensures ∙ ap₂ (fresh _ _) (raised _ _ _ c.energy_cell.ensures) (raised _ _ _ c.temperature_cell.ensures)

@@ -40,7 +40,7 @@ raise_run-a-requires-in-loop-level c =
     let w = going_level p.axes.ranges l.invariant (within c.args.part.now c.loop-level-test.true) c.args.table.now (c.requires.words _) _ c.choose-j.ensures in
     let s = sheet_for c.args.problem.now in
     let x = c.next_job.ensures _ p.stored ∙ sym (next_at_cell s c.choose-j.result (l.invariant.at (within c.args.part.now c.loop-level-test.true))) in
-    raises p.axes c.next_job.result (omega (arith, ap (λ (z : State). z.energy) x, w.energy)) (omega (arith, ap (λ (z : State). z.temperature) x, next_peak s (state_of l.a) c.choose-j.result, w.peak))
+    raises p.axes.ranges c.next_job.result (omega (arith, ap (λ (z : State). z.energy) x, w.energy)) (omega (arith, ap (λ (z : State). z.temperature) x, next_peak s (state_of l.a) c.choose-j.result, w.peak))
 
 pub loop-level-preserved : goal.loop-level-preserved
 loop-level-preserved c =

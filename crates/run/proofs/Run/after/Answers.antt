@@ -14,13 +14,13 @@ use Rattle.run.proofs.Run.after.Goals as goal
 
 -- what the code works out, with the temperature t and the peak p, is the step
 worked : {s : Sheet} {a : Run} {level t p : ℕ} {c : Change} {b : Job} → FiguresOf s a level c b →
-    t ≡ temperature_after a.temperature b.steady b.decay → p ≡ max a.peak t →
+    t ≡ temperature_after a.temperature b.steady b.work.decay → p ≡ max a.peak t →
     ◌≡◌ {A = State}
     (record {
       done = a.done + 1;
       level = level;
-      time = a.time + c.time + b.time;
-      energy = a.energy + c.energy + b.energy;
+      time = a.time + c.time + b.work.time;
+      energy = a.energy + c.energy + b.work.energy;
       temperature = t;
       peak = p;
     })
@@ -29,4 +29,4 @@ unfolding step change job
 worked {a = a} f q r = cc (add-one a.done)
 
 pub returns : goal.returns
-returns c = λ s f. worked f c.temperature_after-temperature.ensures c.max-peak.ensures
+returns c = λ s f. worked f c.temperature_after-temperature.ensures c.max.ensures

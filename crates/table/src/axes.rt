@@ -1,0 +1,32 @@
+ghost use Rattle.std.specs.Prelude.{◌≡◌, ◌+◌};
+ghost use Rattle.thermal.specs.Rounding.{ceil_div};
+ghost use Rattle.table.specs.Bounds.{Bounded};
+
+use store::Head;
+
+// A sheet's V and H lines, and the cells of the table's two axes: "A = W/g rounded up, plus 1", "B = C/h rounded up, plus 1".
+#[derive(Clone, Copy)]
+pub struct Frame {
+    pub head: Head,
+    pub energy_cells: usize,
+    pub temperature_cells: usize,
+    pub ghost bounded: { Bounded head },
+    pub ghost rows: { energy_cells ≡ ceil_div head.energy_budget head.energy_step + 1 },
+    pub ghost columns: { temperature_cells ≡ ceil_div head.temperature_limit head.temperature_step + 1 },
+}
+
+impl Frame {
+    // The energy cell to which an energy is raised.
+    pub fn energy_cell(self, energy: u32) -> u32
+        ensures { result ≡ ceil_div energy self.head.energy_step }
+    {
+        energy.div_ceil(self.head.energy_step)
+    }
+
+    // The temperature cell to which a temperature is raised.
+    pub fn temperature_cell(self, temperature: u32) -> u32
+        ensures { result ≡ ceil_div temperature self.head.temperature_step }
+    {
+        temperature.div_ceil(self.head.temperature_step)
+    }
+}
