@@ -20,9 +20,6 @@ use Rattle.fill.specs.Layer.{FilledFrom}
 pub filled_none : (s : Sheet) (old : List ℕ) → FilledFrom s (need s) old old
 filled_none s old = record { most = omega arith; long = refl; within = λ q l h. absurd (omega arith); beyond = λ q h. refl; ahead = λ q h. refl }
 
-pub filled_self : {s : Sheet} {k : ℕ} {old new : List ℕ} → FilledFrom s k old new → FilledFrom s k new new
-filled_self w = record { most = w.most; long = refl; within = w.within; beyond = λ q h. refl; ahead = λ q h. refl }
-
 pub filled_trans : {s : Sheet} {j k : ℕ} {old mid new : List ℕ} → k ≤ j → FilledFrom s j old mid → FilledFrom s k mid new → FilledFrom s k old new
 filled_trans g v w =
     record { most = w.most; long = w.long ∙ v.long; within = w.within; beyond = λ q h. w.beyond q h ∙ v.beyond q h; ahead = λ q h. w.ahead q h ∙ v.ahead q (omega arith) }

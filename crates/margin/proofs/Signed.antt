@@ -4,7 +4,7 @@ use mathlib.Core.Path.{◌≡◌, refl, sym, ap, ◌∙◌}
 use Prim.Native.Nat.{ℕ, zero, suc, ◌+◌, ◌-◌, ◌^◌, ◌≤◌, ◌<◌}
 use native.Mathlib.Decide.{dec_lt}
 use native.Mathlib.Omega.{arith}
-use lib.IntN.{pos, negsuc, neg_ℤ, sub_ℕ, ◌-ℤ◌}
+use lib.IntN.{pos, negsuc, sub_ℕ, ◌-ℤ◌}
 use borrow.Author.Tests.{lt-ltb, le-ltb}
 use mir.Syntax.{w64}
 use mir.Val.{SFits, to_z, of_z}
@@ -39,15 +39,3 @@ module _ (a b : ℕ) (h : a < 2 ^ 63) (g : b < 2 ^ 63) where
   -- The code's difference is the margin.
   pub margin_is : to_z w64 (of_z w64 (to_z w64 a -ℤ to_z w64 b)) ≡ sub_ℕ a b
   margin_is = to_z-of_z margin_fits ∙ rw (to_z_pos w64 h, to_z_pos w64 g) (sub_is a b)
-
--- Minus a natural.
-sub_zero : (k : ℕ) → sub_ℕ 0 k ≡ neg_ℤ (pos k)
-sub_zero zero = refl
-sub_zero (suc k) = let q : suc k - suc 0 ≡ k = omega arith in sub_above 0 (suc k) (omega arith) ∙ ap negsuc q
-
-module _ (k : ℕ) (h : k < 2 ^ 63) where
-  pub minus_fits : SFits w64 (pos 0 -ℤ to_z w64 k)
-  minus_fits = rw (to_z_pos w64 h, sub_is 0 k) (sub_fits 0 k (omega arith) h)
-
-  pub minus_is : to_z w64 (of_z w64 (pos 0 -ℤ to_z w64 k)) ≡ neg_ℤ (pos k)
-  minus_is = to_z-of_z minus_fits ∙ rw (to_z_pos w64 h) (sub_is 0 k ∙ sub_zero k)
