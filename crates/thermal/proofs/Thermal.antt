@@ -1,11 +1,11 @@
 -- Laws of the thermal rule. What lies above this crate knows the rule by these alone; the worked cases compute with its text.
 -- Assumes nothing.
 use mathlib.Core.Path.{◌≡◌}
-use Prim.Native.Nat.{ℕ, ◌+◌, ◌-◌, ◌≤◌, max}
+use Prim.Native.Nat.{ℕ, ◌+◌, ◌*◌, ◌-◌, ◌≤◌, max}
 use native.Mathlib.Nat.{mul-le-mul_left, mul-le-mul_right, le-max_left, le-max_right}
 use native.Mathlib.Omega.{arith}
 use Rattle.thermal.specs.Rounding.{ceil_div}
-use Rattle.thermal.specs.Thermal.{temperature_after, RuleDomain, raised_temperature_max}
+use Rattle.thermal.specs.Thermal.{temperature_after, RuleDomain, raised_temperature_max, rule_sum_max}
 
 -- Monotone in the temperature.
 pub rule_mono : (t u s d : ℕ) → t ≤ u → temperature_after t s d ≤ temperature_after u s d
@@ -48,3 +48,16 @@ rule_nonexpansive s d h = record { mono = λ t u l. rule_mono t u s d l; slack =
 -- The rule as a function takes the largest figures that document 01 names.
 pub rule_domain : RuleDomain raised_temperature_max 20000 65536
 rule_domain = omega arith
+
+-- No figures that it may rest on make a larger sum, 65,535 for rounding up included, and the largest of them make this one.
+pub rule_sum : (t s d : ℕ) → RuleDomain t s d → d * t + (65536 - d) * s + 65535 ≤ rule_sum_max
+rule_sum t s d h =
+    omega (
+      arith,
+      mul-le-mul_left d h.temperature_most,
+      mul-le-mul_left (65536 - d) h.steady_most,
+      mul-le-mul_right raised_temperature_max (weights d h.decay_most),
+    )
+
+pub rule_sum_reached : 65536 * raised_temperature_max + (65536 - 65536) * 20000 + 65535 ≡ rule_sum_max
+rule_sum_reached = omega arith

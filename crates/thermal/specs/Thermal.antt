@@ -33,7 +33,11 @@ temperature_after temperature steady decay = ceil_div (decay * temperature + (65
 abbrev pub raised_temperature_max : ℕ
 raised_temperature_max = 39998
 
--- What the rule, "an inner call, worked in a 64-bit number", "may rest on".
+-- The largest sum that the rule divides (document 02, W3: "its largest sum, from a raised temperature of 39,998, is 2,621,374,463").
+abbrev pub rule_sum_max : ℕ
+rule_sum_max = 2621374463
+
+-- What the rule, "an inner call", "may rest on".
 pub record RuleDomain (temperature steady decay : ℕ) : Type 0 where
   pub temperature_most : temperature ≤ raised_temperature_max
   pub steady_most : steady ≤ 20000

@@ -14,11 +14,13 @@ pub fn steady_state(power: u32, resistance: u32) -> u64
 }
 
 // The temperature after a job that starts at `temperature`, at a level of steady-state temperature `steady`. An inner
-// call: 39,998 is the warmest that a raised temperature can be. Rounded up by a sum: `div_ceil` tests the remainder, and takes 14
-// instructions for a cell of the fill's map where this takes 10.
+// call: 39,998 is the warmest that a raised temperature can be. Worked in 32 bits, as no sum that its definition divides is above
+// 2,621,374,463.
 pub fn temperature_after(temperature: u64, steady: u64, decay: u64) -> u64
     requires { RuleDomain temperature steady decay }
     ensures { result ≡ temperature_after temperature steady decay }
 {
-    (decay * temperature + (65_536 - decay) * steady + 65_535) / 65_536
+    let (temperature, steady, decay) = (temperature as u32, steady as u32, decay as u32);
+    let sum = decay * temperature + (65_536 - decay) * steady;
+    sum.div_ceil(65_536) as u64
 }
