@@ -7,15 +7,17 @@ use Prim.Native.Nat.{ℕ, zero, suc, ◌+◌, ◌-◌, ◌≤◌, ◌<◌}
 use native.Mathlib.Decide.{ℕ_discrete}
 use native.Mathlib.Numerals.{add-one}
 use native.Mathlib.Omega.{arith}
-use lib.Dec.{eqb, leb}
+use lib.Dec.{eqb, leb, ltb}
 use lib.ListN.{length, get_or, take, drop, length-take, length-drop}
 use lib.Seq.{drop-cons, get_or-take, get_or-drop}
-use borrow.Author.Tests.{lt-ltb, le-ltb, ltb-true, ltb-false, le-leb, leb-true, eq-eqb, ne_eqb}
+use borrow.Author.Tests.{lt-ltb, ltb-true, ltb-false, le-leb, leb-true, eq-eqb, ne_eqb}
 use Rattle.std.specs.Prelude.{Option, Some, None, position}
 use Rattle.std.specs.List.{position_or_len}
-use Rattle.std.specs.Option.{unwrap_or}
+use Rattle.std.specs.Option.{unwrap_or, option_map}
+use Rattle.std.specs.Bool.{then_some}
 use Rattle.std.proofs.lemmas.List.Recursion.{is_position_or_len}
 use Rattle.std.proofs.lemmas.Option.{cond_some, none-some}
+use Rattle.text.specs.declared.Line.{Line}
 use Rattle.text.specs.Text.{before, until, beyond, ahead, next_line, count, all}
 use Rattle.text.proofs.Tests.{cond_true}
 
@@ -227,18 +229,30 @@ module _ {t : List ℕ} {i tabs : ℕ} (z : Scanned t i tabs) where
     pub scanned_tab : (k : ℕ) → k ≡ tabs + 1 → (get_or t i 0 ≡ 10 → ⊥) → get_or t i 0 ≡ 9 → Scanned t (i + 1) k
     scanned_tab k e n m = scanned_on k n (omega (arith, e, z.few)) (rw (eq-eqb (get_or t i 0) 9 m) (omega (arith, e)))
 
-    pub scanned_end : get_or t i 0 ≡ 10 → Some (take i t) ≡ next_line t
-    unfolding next_line until
+    pub scanned_end : get_or t i 0 ≡ 10 → take i t ≡ until 10 t
+    unfolding until
     scanned_end e =
         let d = ap (before 10) (drop_here t i h) ∙ before_hit 10 (get_or t i 0) (drop (i + 1) t) e in
         let q : before 10 t ≡ i = omega (arith, z.end, d) in
-        rw (lt_ahead 10 t (omega (arith, q)), q) refl
+        rw q refl
 
-  pub scanned_all : length t ≤ i → None ≡ next_line t
-  unfolding next_line ahead
+  pub scanned_all : length t ≤ i → take i t ≡ until 10 t
+  unfolding until
   scanned_all h =
-      let q : length t ≤ before 10 t = omega (arith, z.end) in
-      rw (le-ltb (before 10 t) (length t) q) refl
+      let q : before 10 t ≡ i = omega (arith, h, z.within, z.end, before_le 10 t) in
+      rw q refl
+
+-- A line that was scanned is the next one where it is shorter than the text.
+pub line_shorter : (line : Line) (t : List ℕ) → line.bytes.now ≡ until 10 t →
+    option_map (λ (l : Line). l.bytes.now) (then_some (ltb (length line.bytes.now) (length t)) line) ≡ next_line t
+unfolding next_line ahead
+line_shorter line t e =
+    let q : length line.bytes.now ≡ before 10 t = ap length e ∙ length_until 10 t in
+    rw q (if_so (ltb (before 10 t) (length t)))
+  where
+    if_so : (b : Bool) → option_map (λ (l : Line). l.bytes.now) (then_some b line) ≡ cond b (Some (until 10 t)) None
+    if_so true = ap Some e
+    if_so false = refl
 
 -- ---- the next line
 

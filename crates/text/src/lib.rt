@@ -2,7 +2,7 @@
 
 ghost use Rattle.std.specs.Prelude.{◌≡◌, ◌+◌, ◌==◌, length, drop, position};
 ghost use Rattle.std.specs.Option.{option_map};
-ghost use Rattle.text.specs.Text.{before, count, next_line};
+ghost use Rattle.text.specs.Text.{before, until, count, next_line};
 
 // Document 01: "Lines end with byte 10; fields are parted by one byte 9."
 pub const LINE_END: u8 = b'\n';
@@ -51,21 +51,31 @@ pub fn behind(t: &[u8], i: usize) -> &[u8]
     t.get(i.saturating_add(1)..).unwrap_or(&[])
 }
 
-// The next line of a text; none where it has no byte 10.
-pub fn next_line(t: &[u8]) -> Option<Line<'_>>
-    ensures { option_map (λ l. l.bytes.now) result ≡ next_line t.now }
+// The line that a text starts with, up to its first byte 10, or to its end where it has none.
+pub fn scan_line(t: &[u8]) -> Line<'_>
+    ensures { result.bytes.now ≡ until 10 t.now }
 {
+    let mut end = 0; // no `enumerate`: the count is needed behind the loop, where its place is gone
     let mut tabs = 0;
-    for (i, &b) in t.iter().enumerate() {
+    for &b in t {
         if b == LINE_END {
-            return Some(Line {
-                bytes: &t[..i],
-                tabs,
-            });
+            break;
         }
         if b == TAB {
             tabs += 1;
         }
+        end += 1;
     }
-    None
+    Line {
+        bytes: &t[..end],
+        tabs,
+    }
+}
+
+// The next line of a text; none where it has no byte 10, so that the line scanned is the whole text.
+pub fn next_line(t: &[u8]) -> Option<Line<'_>>
+    ensures { option_map (λ l. l.bytes.now) result ≡ next_line t.now }
+{
+    let line = scan_line(t);
+    (line.bytes.len() < t.len()).then_some(line)
 }
