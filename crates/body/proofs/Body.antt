@@ -75,19 +75,19 @@ module _ (l n i : ℕ) (rest : Rest) (store : Store) where
   job_unnamed {e} q = rw (unread (next_by name_fault rest) e q) refl
 
   pub job_named : {r : Rest} → Ok r ≡ name_from rest →
-      jobs_from l (suc n) i rest store ≡ onward (block_from (Work i) l 0 r store) (jobs_from l n (i + 1))
+      jobs_from l (suc n) i rest store ≡ onward (block_from Work (i * levels_max) l 0 r store) (jobs_from l n (i + 1))
   unfolding name_from jobs_from
   job_named {r} q = rw (read_on (next_by name_fault rest) r q).1 refl
 
 -- ---- all of them, one after the other
 
 module _ (m l resistance : ℕ) (start : Rest) (old : Store) {one : Store} where
-  pub body_levels : {e : LineFault} → stop one e ≡ block_from (Level resistance) l 0 start old →
+  pub body_levels : {e : LineFault} → stop one e ≡ block_from (Level resistance) 0 l 0 start old →
       stop one e ≡ body_from m l resistance start old
   unfolding body_from
   body_levels a = onward_stop (jobs_from l m 0) (onward_stop (changes_from l l 0) a)
 
-  module _ {changes : Rest} (a : pass one changes ≡ block_from (Level resistance) l 0 start old) {two : Store} where
+  module _ {changes : Rest} (a : pass one changes ≡ block_from (Level resistance) 0 l 0 start old) {two : Store} where
     pub body_changes : {e : LineFault} → stop two e ≡ changes_from l l 0 changes one →
         stop two e ≡ body_from m l resistance start old
     unfolding body_from
@@ -113,7 +113,7 @@ module _ (l : ℕ) (few : l ≤ levels_max) (most : ℕ) where
   unfolding changes_from
   changes_placed zero p r st h = placed_end most st r (omega arith)
   changes_placed (suc n) p r st h =
-      onward_placed (r.line + l) most _ _ (omega arith) (block_placed (Change p) l 0 r st)
+      onward_placed (r.line + l) most _ _ (omega arith) (block_placed (Change p) (p * levels_max) l 0 r st)
       (λ s store q. changes_placed n (p + 1) s store (omega arith))
 
   -- The lines of the next n jobs.
@@ -125,7 +125,7 @@ module _ (l : ℕ) (few : l ≤ levels_max) (most : ℕ) where
       (λ f e. let z = line_fault name_fault r f (name_field (until 10 r.text)) e in placed_stop most st f (omega (arith, z.line)) z.field)
       (λ name e.
       let z = ap (λ (s : Rest). s.line) (line_read name_fault r name e).rest in
-      onward_placed (name.1.line + l) most _ _ (omega (arith, z)) (block_placed (Work i) l 0 name.1 st)
+      onward_placed (name.1.line + l) most _ _ (omega (arith, z)) (block_placed Work (i * levels_max) l 0 name.1 st)
       (λ s store q. jobs_placed n (i + 1) s store (omega (arith, z))))
 
 -- All of them, and bytes after them on the next line.
@@ -134,6 +134,6 @@ pub body_placed : (m l resistance : ℕ) (r : Rest) (st : Store) → m ≤ jobs_
 unfolding body_from
 body_placed m l resistance r st jobs few h =
     onward_placed (lines_before levels_max 0 + 1) end_line _ _ (omega arith)
-    (onward_placed (r.line + l) (lines_before levels_max 0 + 1) _ _ (omega arith) (block_placed (Level resistance) l 0 r st)
+    (onward_placed (r.line + l) (lines_before levels_max 0 + 1) _ _ (omega arith) (block_placed (Level resistance) 0 l 0 r st)
     (λ s store q. changes_placed l few _ l 0 s store (omega arith)))
     (λ s store q. jobs_placed l few end_line m 0 s store (omega arith))

@@ -36,7 +36,7 @@ onward f go = after f.read (stop f.store) (λ r. go r f.store)
 -- The S lines of the next n of l levels left, from level p on.
 unfoldable pub changes_from : ℕ → ℕ → ℕ → Rest → Store → Found
 changes_from l zero p r st = record { read = Ok r; store = st }
-changes_from l (suc n) p r st = onward (block_from (Change p) l 0 r st) (changes_from l n (p + 1))
+changes_from l (suc n) p r st = onward (block_from (Change p) (p * levels_max) l 0 r st) (changes_from l n (p + 1))
 
 -- "J, name": what is left behind the next line, or its fault.
 unfoldable pub name_from : Rest → Result Rest LineFault
@@ -46,9 +46,9 @@ name_from r = result_map_both (λ name. name.1) (λ f. f) (next_by name_fault r)
 unfoldable pub jobs_from : ℕ → ℕ → ℕ → Rest → Store → Found
 jobs_from l zero i r st = record { read = Ok r; store = st }
 jobs_from l (suc n) i r st =
-    after (next_by name_fault r) (stop st) (λ name. onward (block_from (Work i) l 0 name.1 st) (jobs_from l n (i + 1)))
+    after (next_by name_fault r) (stop st) (λ name. onward (block_from Work (i * levels_max) l 0 name.1 st) (jobs_from l n (i + 1)))
 
 -- All lines after the H line of a sheet of m jobs and l levels.
 unfoldable pub body_from : ℕ → ℕ → ℕ → Rest → Store → Found
 body_from m l resistance r st =
-    onward (onward (block_from (Level resistance) l 0 r st) (changes_from l l 0)) (jobs_from l m 0)
+    onward (onward (block_from (Level resistance) 0 l 0 r st) (changes_from l l 0)) (jobs_from l m 0)

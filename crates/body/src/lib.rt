@@ -11,7 +11,7 @@ mod counts;
 pub use counts::Counts;
 use line_kinds::Kind;
 use reading::{LineFault, Place};
-use store::Store;
+use store::{LEVELS_MAX, Store};
 
 // The lines before the L lines.
 pub const HEAD_LINES: usize = 2;
@@ -26,7 +26,7 @@ fn read_changes<'a>(
 {
     let mut place = start;
     for p in 0..counts.levels {
-        place = lines::read_block(place, Kind::Change(p), counts.levels, store)?;
+        place = lines::read_block(place, Kind::Change(p), p * LEVELS_MAX, counts.levels, store)?;
     }
     Ok(place)
 }
@@ -53,7 +53,7 @@ fn read_jobs<'a>(
     let mut place = start;
     for i in 0..counts.jobs {
         let works = read_name(place)?;
-        place = lines::read_block(works, Kind::Work(i), counts.levels, store)?;
+        place = lines::read_block(works, Kind::Work, i * LEVELS_MAX, counts.levels, store)?;
     }
     Ok(place)
 }
@@ -67,7 +67,7 @@ pub fn read_body<'a>(
 ) -> Result<Place<'a>, LineFault>
     ensures { found_in result store.new ≡ body_from counts.jobs counts.levels resistance (rest_of start.entry) store.old }
 {
-    let changes = lines::read_block(start, Kind::Level(resistance), counts.levels, store)?;
+    let changes = lines::read_block(start, Kind::Level(resistance), 0, counts.levels, store)?;
     let jobs = read_changes(changes, counts, store)?;
     read_jobs(jobs, counts, store)
 }

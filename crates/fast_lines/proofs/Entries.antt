@@ -58,15 +58,15 @@ module _ (kind : Kind) (j : ℕ) (t : List ℕ) where
   -- An S line, of which both numbers have the range.
   module _ (p : ℕ) (k : kind ≡ Change p) (range : Range) (m : range ≡ cost_range p j) where
     pub change : {r : Option (List ℕ × ℕ)} → r ≡ line_taken (room_for 2) (fields_of 83 (range ∷ range ∷ [])) t →
-        made (λ vs. Ok (change_entry p vs)) r ≡ entry_taken kind j t
+        made (λ vs. Ok (change_entry vs)) r ≡ entry_taken kind j t
     unfolding entry_taken fields_for change_fields
-    change e = rw k (of_numbers _ _ (λ vs. Ok (change_entry p vs)) (fields_for (Change p) j) t (rw m refl) e)
+    change e = rw k (of_numbers _ _ (λ vs. Ok (change_entry vs)) (fields_for (Change p) j) t (rw m refl) e)
 
   -- A B line.
-  pub work : (i : ℕ) → kind ≡ Work i → {r : Option (List ℕ × ℕ)} → r ≡ line_taken (room_for 3) (fields_of 66 work_ranges) t →
-      made (λ vs. Ok (work_entry i vs)) r ≡ entry_taken kind j t
+  pub work : kind ≡ Work → {r : Option (List ℕ × ℕ)} → r ≡ line_taken (room_for 3) (fields_of 66 work_ranges) t →
+      made (λ vs. Ok (work_entry vs)) r ≡ entry_taken kind j t
   unfolding entry_taken fields_for work_fields
-  work i k e = rw k (of_numbers _ _ (λ vs. Ok (work_entry i vs)) (fields_for (Work i) j) t refl e)
+  work k e = rw k (of_numbers _ _ (λ vs. Ok (work_entry vs)) (fields_for Work j) t refl e)
 
 -- A line that is taken ends at a byte 10, and is sound.
 pub entry_at : (kind : Kind) (j : ℕ) (t : List ℕ) {entry : Entry} {n : ℕ} → Some (entry, n) ≡ entry_taken kind j t →

@@ -15,7 +15,7 @@ room_for n = 2 + n * 9
 abbrev pub room_of : Kind → ℕ
 room_of (Level resistance) = room_for 1
 room_of (Change p) = room_for 2
-room_of (Work i) = room_for 3
+room_of Work = room_for 3
 
 -- What the next line of the text t says, as line j, from 0, of the lines of a kind, and how many bytes it has with its byte 10,
 -- where it is taken; j counts for S lines alone.

@@ -51,11 +51,11 @@ pub fn take_line(t: &[u8], kind: Kind, j: usize) -> Option<(Entry, usize)>
         Kind::Change(p) => {
             let range = line_kinds::cost_range(p, j);
             let (numbers, n) = take_numbers(t, b'S', [range, range])?;
-            Some((line_kinds::change_entry(p, numbers), n))
+            Some((line_kinds::change_entry(numbers), n))
         }
-        Kind::Work(i) => {
+        Kind::Work => {
             let (numbers, n) = take_numbers(t, b'B', [JOB_TIME, COST, DECAY])?;
-            Some((line_kinds::work_entry(i, numbers), n))
+            Some((line_kinds::work_entry(numbers), n))
         }
     }
 }

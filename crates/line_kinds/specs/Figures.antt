@@ -1,7 +1,7 @@
 -- A line of numbers, by its kind, and where its figures go (document 01, 'The sheet'): "L, power P", "S, time, energy of a change",
 -- "B, time .., energy .., decay ..".
 -- Assumes nothing.
-use Rattle.std.specs.Prelude.{⊤, cond, List, [], ◌∷◌, ℕ, ◌<◌, eqb, ltb, get_or, set, Result, Ok, Err}
+use Rattle.std.specs.Prelude.{cond, List, [], ◌∷◌, ℕ, ◌*◌, ◌/◌, ◌%◌, eqb, ltb, get_or, set, Result, Ok, Err}
 use Rattle.frame.specs.Sheet.{temperature_max, power_max, cost_max, decay_max}
 use Rattle.store.specs.Store.{jobs_max, levels_max}
 use Rattle.store.specs.declared.Store.{Store}
@@ -38,41 +38,52 @@ unfoldable pub level_fields : ℕ → List ℕ → Result Entry Fault
 level_fields resistance line = after (fields_of 76 level_ranges line) Err (λ vs. steady_fields resistance (get_or vs 0 0))
 
 -- What the numbers of an S line and of a B line say.
-abbrev pub change_entry : ℕ → List ℕ → Entry
-change_entry p vs = ChangeEntry p (record { time = get_or vs 0 0; energy = get_or vs 1 0 })
+abbrev pub change_entry : List ℕ → Entry
+change_entry vs = ChangeEntry (record { time = get_or vs 0 0; energy = get_or vs 1 0 })
 
-abbrev pub work_entry : ℕ → List ℕ → Entry
-work_entry i vs = WorkEntry i (record { time = get_or vs 0 0; energy = get_or vs 1 0; decay = get_or vs 2 0 })
+abbrev pub work_entry : List ℕ → Entry
+work_entry vs = WorkEntry (record { time = get_or vs 0 0; energy = get_or vs 1 0; decay = get_or vs 2 0 })
 
 -- "S, time, energy of a change (each 0 to 10,000,000)"; S is byte 83
 unfoldable pub change_fields : ℕ → ℕ → List ℕ → Result Entry Fault
-change_fields p j line = after (fields_of 83 (change_ranges p j) line) Err (λ vs. Ok (change_entry p vs))
+change_fields p j line = after (fields_of 83 (change_ranges p j) line) Err (λ vs. Ok (change_entry vs))
 
 -- "B, time (1 to 10,000,000), energy (0 to 10,000,000), decay (0 to 65,536)"; B is byte 66
-unfoldable pub work_fields : ℕ → List ℕ → Result Entry Fault
-work_fields i line = after (fields_of 66 work_ranges line) Err (λ vs. Ok (work_entry i vs))
+unfoldable pub work_fields : List ℕ → Result Entry Fault
+work_fields line = after (fields_of 66 work_ranges line) Err (λ vs. Ok (work_entry vs))
 
 -- Line j, from 0, of the lines of a kind.
 unfoldable pub fields_for : Kind → ℕ → List ℕ → Result Entry Fault
 fields_for (Level resistance) j line = level_fields resistance line
 fields_for (Change p) j line = change_fields p j line
-fields_for (Work i) j line = work_fields i line
+fields_for Work j line = work_fields line
 
--- The store with what line j says put in its place.
+-- Rows of figures, one for each level in a row, with figure k of them all put.
+abbrev pub put_in_rows : {A : Type 0} → ℕ → A → List (List A) → List (List A)
+put_in_rows k x rows = let i = k / levels_max in set rows i (set (get_or rows i []) (k % levels_max) x)
+
+-- The store with what a line says put in place k of its kind, in the order of the lines: L lines by level; S lines "by level left and
+-- then level entered"; B lines "For each job .. then l lines B", with a place for each level that a sheet can have.
 unfoldable pub put : ℕ → Entry → Store → Store
-put j (LevelEntry power) st = record { powers = set st.powers j power; changes = st.changes; works = st.works }
-put j (ChangeEntry p change) st =
-    record { powers = st.powers; changes = set st.changes p (set (get_or st.changes p []) j change); works = st.works }
-put j (WorkEntry i work) st = record { powers = st.powers; changes = st.changes; works = set st.works i (set (get_or st.works i []) j work) }
+put k (LevelEntry power) st = record { powers = set st.powers k power; changes = st.changes; works = st.works }
+put k (ChangeEntry change) st = record { powers = st.powers; changes = put_in_rows k change st.changes; works = st.works }
+put k (WorkEntry work) st = record { powers = st.powers; changes = st.changes; works = put_in_rows k work st.works }
 
--- The lines of a kind are those of a level or a job that a store has a place for.
-abbrev pub KindPlace : Kind → Type 0
-KindPlace (Level resistance) = ⊤
-KindPlace (Change p) = p < levels_max
-KindPlace (Work i) = i < jobs_max
+-- How many places the store has for a change, and for a job at a level.
+abbrev pub changes_max : ℕ
+changes_max = levels_max * levels_max
+
+abbrev pub works_max : ℕ
+works_max = jobs_max * levels_max
+
+-- How many it has for the lines of a kind.
+abbrev pub places_of : Kind → ℕ
+places_of (Level resistance) = levels_max
+places_of (Change p) = changes_max
+places_of Work = works_max
 
 -- The same for what a line says.
-abbrev pub HasPlace : Entry → Type 0
-HasPlace (LevelEntry power) = ⊤
-HasPlace (ChangeEntry p change) = p < levels_max
-HasPlace (WorkEntry i work) = i < jobs_max
+abbrev pub places_for : Entry → ℕ
+places_for (LevelEntry power) = levels_max
+places_for (ChangeEntry change) = changes_max
+places_for (WorkEntry work) = works_max

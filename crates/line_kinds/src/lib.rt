@@ -1,29 +1,28 @@
 #![tactic(auto)]
 
 ghost use Rattle.std.specs.Prelude.{◌≡◌, ◌<◌};
-ghost use Rattle.store.specs.Store.{levels_max};
-ghost use Rattle.line_kinds.specs.Figures.{cost_range, steady_fields, change_entry, work_entry, fields_for, put, HasPlace};
+ghost use Rattle.line_kinds.specs.Figures.{cost_range, steady_fields, change_entry, work_entry, fields_for, put, places_for};
 
 use fields::{Fault, Range};
-use store::{COST_MAX, Change, DECAY_MAX, POWER_MAX, Store, TEMPERATURE_MAX, Work};
+use store::{COST_MAX, Change, DECAY_MAX, LEVELS_MAX, POWER_MAX, Store, TEMPERATURE_MAX, Work};
 use text::Line;
 
-// Which lines: L, with the sheet's thermal resistance; S, of the changes from a level; B, of a job. An enum and no trait: one loop takes
-// all three, and one reads them; a type for each would put three copies of both into mask memory, and a `dyn` is no plainer where all
-// three are known.
+// Which lines: L, with the sheet's thermal resistance; S, of the changes from a level; B. An enum and no trait: one loop takes all three,
+// and one reads them; a type for each would put three copies of both into mask memory, and a `dyn` is no plainer where all three are
+// known.
 #[derive(Clone, Copy)]
 pub enum Kind {
     Level(u32),
     Change(usize),
-    Work(usize),
+    Work,
 }
 
-// What a line says: the power of a level; the cost of a change, with the level left; what a job takes, with the job.
+// What a line says: the power of a level; the cost of a change; what a job takes at a level.
 #[derive(Clone, Copy)]
 pub enum Entry {
     Level(u32),
-    Change(usize, Change),
-    Work(usize, Work),
+    Change(Change),
+    Work(Work),
 }
 
 // The steady-state temperature "must be at most 20,000".
@@ -62,17 +61,17 @@ pub fn level_entry(power: u32, resistance: u32) -> Result<Entry, Fault>
     Ok(Entry::Level(power))
 }
 
-// What an S line says, of a change from level p.
-pub fn change_entry(p: usize, numbers: [u32; 2]) -> Entry
-    ensures { result ≡ change_entry p numbers }
+// What an S line says.
+pub fn change_entry(numbers: [u32; 2]) -> Entry
+    ensures { result ≡ change_entry numbers }
 {
     let [time, energy] = numbers;
-    Entry::Change(p, Change { time, energy })
+    Entry::Change(Change { time, energy })
 }
 
-// What a B line says, of job i.
-pub fn work_entry(i: usize, numbers: [u32; 3]) -> Entry
-    ensures { result ≡ work_entry i numbers }
+// What a B line says.
+pub fn work_entry(numbers: [u32; 3]) -> Entry
+    ensures { result ≡ work_entry numbers }
 {
     let [time, energy, decay] = numbers;
     let work = Work {
@@ -80,7 +79,7 @@ pub fn work_entry(i: usize, numbers: [u32; 3]) -> Entry
         energy,
         decay,
     };
-    Entry::Work(i, work)
+    Entry::Work(work)
 }
 
 // The range of the time and of the energy of a change from level p to level j: "From a level to itself both must be 0".
@@ -102,29 +101,30 @@ pub fn read_line(line: Line, kind: Kind, j: usize) -> Result<Entry, Fault>
         Kind::Change(p) => {
             let range = cost_range(p, j);
             let numbers = fields::read_fields(line, b'S', [range, range])?;
-            Ok(change_entry(p, numbers))
+            Ok(change_entry(numbers))
         }
-        Kind::Work(i) => {
+        Kind::Work => {
             let numbers = fields::read_fields(line, b'B', [JOB_TIME, COST, DECAY])?;
-            Ok(work_entry(i, numbers))
+            Ok(work_entry(numbers))
         }
     }
 }
 
-// Puts what line j says in the store; j is a plain number, as each call has another.
-pub fn put_entry(store: &mut Store, j: usize, entry: Entry)
-    requires { (j < levels_max) × HasPlace entry }
-    ensures { store.new ≡ put j entry store.old }
+// Puts what a line says in place k of all that are of its kind, in the order in which a sheet has them; k is a plain number, as each
+// call has another.
+pub fn put_entry(store: &mut Store, k: usize, entry: Entry)
+    requires { k < places_for entry }
+    ensures { store.new ≡ put k entry store.old }
 {
     match entry {
         Entry::Level(power) => {
-            store.powers[j] = power;
+            store.powers[k] = power;
         }
-        Entry::Change(p, change) => {
-            store.changes[p][j] = change;
+        Entry::Change(change) => {
+            store.changes[k / LEVELS_MAX][k % LEVELS_MAX] = change;
         }
-        Entry::Work(i, work) => {
-            store.works[i][j] = work;
+        Entry::Work(work) => {
+            store.works[k / LEVELS_MAX][k % LEVELS_MAX] = work;
         }
     }
 }

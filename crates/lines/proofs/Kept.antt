@@ -2,7 +2,7 @@
 -- Assumes nothing.
 use mathlib.Core.Path.{◌≡◌, refl, ◌∙◌}
 use mathlib.Core.List.{List, []}
-use Prim.Native.Nat.{ℕ, zero, suc, ◌+◌, ◌≤◌, ◌<◌}
+use Prim.Native.Nat.{ℕ, zero, suc, ◌+◌, ◌*◌, ◌/◌, ◌%◌, ◌≤◌, ◌<◌}
 use native.Mathlib.Decide.{dec_lt, ℕ_discrete}
 use native.Mathlib.Omega.{arith}
 use lib.Dec.{ltb}
@@ -13,6 +13,7 @@ use Rattle.std.specs.Prelude.{Ok}
 use Rattle.thermal.specs.Thermal.{steady_state}
 use Rattle.thermal.proofs.Steady.{steady_within}
 use Rattle.frame.specs.Sheet.{power_max, temperature_max, cost_max, decay_max}
+use Rattle.frame.proofs.Table.{digit_div, digit_mod}
 use Rattle.store.specs.Store.{jobs_max, levels_max}
 use Rattle.store.specs.declared.Change.{Change}
 use Rattle.store.specs.declared.Work.{Work}
@@ -26,7 +27,7 @@ use Rattle.line_kinds.specs.declared.Kind.{Kind}
 use Rattle.line_kinds.specs.declared.Kind.TheVariants.{Level as LevelKind, Change as ChangeKind, Work as WorkKind}
 use Rattle.line_kinds.specs.declared.Entry.{Entry}
 use Rattle.line_kinds.specs.declared.Entry.TheVariants.{Level as LevelEntry, Change as ChangeEntry, Work as WorkEntry}
-use Rattle.line_kinds.specs.Figures.{level_ranges, cost_range, change_ranges, work_ranges, steady_fields, level_fields, change_fields, work_fields, fields_for, put}
+use Rattle.line_kinds.specs.Figures.{level_ranges, cost_range, change_ranges, work_ranges, steady_fields, level_fields, change_fields, work_fields, fields_for, put_in_rows, put}
 use Rattle.reading.specs.Rest.{Rest, next_by}
 use Rattle.reading.proofs.Next.{line_read}
 use Rattle.lines.specs.Lines.{Found, block_from}
@@ -52,8 +53,8 @@ pub record Worked (work : Work) : Type 0 where
 -- What line j of a kind says is of its kind, and its figures are in range: "B, time (1 to 10,000,000)".
 abbrev Says : Kind → ℕ → Entry → Type 0
 Says (LevelKind resistance) j entry = (power : ℕ) × (entry ≡ LevelEntry power) × Powered resistance power
-Says (ChangeKind p) j entry = (change : Change) × (entry ≡ ChangeEntry p change) × Changed p j change
-Says (WorkKind i) j entry = (work : Work) × (entry ≡ WorkEntry i work) × Worked work × (1 ≤ work.time)
+Says (ChangeKind p) j entry = (change : Change) × (entry ≡ ChangeEntry change) × Changed p j change
+Says WorkKind j entry = (work : Work) × (entry ≡ WorkEntry work) × Worked work × (1 ≤ work.time)
 
 cost_most : (p j : ℕ) → (cost_range p j).most ≤ cost_max
 cost_most p j = elim (ℕ_discrete j p) [
@@ -85,7 +86,7 @@ says (ChangeKind p) j line entry e =
         stay = λ d. (omega (arith, x.1, cost_stay p j d), omega (arith, y.1, cost_stay p j d));
       },
     )
-says (WorkKind i) j line entry e =
+says WorkKind j line entry e =
     let a = after_ok (fields_of 66 work_ranges line) _ entry e in
     let h = fields_held 66 work_ranges line a.0 a.1 in
     let x = held_at work_ranges a.0 0 h (omega arith) in
@@ -98,14 +99,16 @@ says (WorkKind i) j line entry e =
     )
 
 -- What is kept from line to line holds after a block of lines, whether it is sound or not.
-module _ (P : Store → Type 0) (kind : Kind)
-    (one : (j : ℕ) (entry : Entry) (st : Store) → Says kind j entry → P st → P (put j entry st)) where
-  block_keeps : (n j : ℕ) (r : Rest) (st : Store) → P st → P (block_from kind n j r st).store
+module _ (P : Store → Type 0) (kind : Kind) (b all : ℕ)
+    (one : (j : ℕ) (entry : Entry) (st : Store) → j < all → Says kind j entry → P st → P (put (b + j) entry st)) where
+  block_keeps : (n j : ℕ) (r : Rest) (st : Store) → j + n ≤ all → P st → P (block_from kind b n j r st).store
   unfolding block_from
-  block_keeps zero j r st h = h
-  block_keeps (suc n) j r st h =
+  block_keeps zero j r st l h = h
+  block_keeps (suc n) j r st l h =
       after_cases (λ (f : Found). P f.store) (next_by (fields_for kind j) r) _ _ (λ f e. h)
-      (λ line e. block_keeps n (j + 1) line.1 _ (one j line.0 st (says kind j _ line.0 (line_read (fields_for kind j) r line e).says) h))
+      (λ line e.
+      let s = says kind j _ line.0 (line_read (fields_for kind j) r line e).says in
+      block_keeps n (j + 1) line.1 _ (omega arith) (one j line.0 st (omega arith) s h))
 
 -- ---- a list with one place put
 
@@ -123,11 +126,13 @@ at_set P xs k j x d h g = elim (ℕ_discrete j k) [
   | no e ↦ rw (get_or-set_other xs k j x d e) h
 ]
 
--- The same for place j of list i.
-at_put : {A : Type 0} (P : A → Type 0) (xss : List (List A)) (i j a b : ℕ) (x d : A) → P (get_or (get_or xss a []) b d) → (a ≡ i → b ≡ j → P x) →
-    P (get_or (get_or (set xss i (set (get_or xss i []) j x)) a []) b d)
-at_put P xss i j a b x d h g =
-    at_set (λ xs. P (get_or xs b d)) xss i a _ [] h (λ e. at_set P (get_or xss i []) j b x d (rw e at h) (g e))
+-- The same for place b of row a.
+at_put : {A : Type 0} (P : A → Type 0) (rows : List (List A)) (k a b : ℕ) (x d : A) → P (get_or (get_or rows a []) b d) →
+    (a ≡ k / levels_max → b ≡ k % levels_max → P x) → P (get_or (get_or (put_in_rows k x rows) a []) b d)
+at_put P rows k a b x d h g =
+    let i = k / levels_max in
+    let j = k % levels_max in
+    at_set (λ xs. P (get_or xs b d)) rows i a _ [] h (λ e. at_set P (get_or rows i []) j b x d (rw e at h) (g e))
 
 -- What is replicated is at each place, also past the end, where it counts.
 at_replicate : {A : Type 0} (n j : ℕ) (a : A) → get_or (replicate n a) j a ≡ a
@@ -178,55 +183,61 @@ none_kept resistance m l d e =
 pub kept_clear : (resistance : ℕ) → Kept resistance clear
 kept_clear resistance = none_kept resistance jobs_max levels_max refl refl
 
--- The lines of a kind are of a sheet with this resistance.
-abbrev pub Resists : ℕ → Kind → Type 0
-Resists resistance (LevelKind r) = r ≡ resistance
-Resists resistance (ChangeKind p) = Unit {0}
-Resists resistance (WorkKind i) = Unit {0}
+-- The first n lines of a kind are of a sheet with this resistance, and go to their places from place b on: S lines to those of the level
+-- that they leave.
+abbrev pub Belong : ℕ → ℕ → ℕ → Kind → Type 0
+Belong resistance b n (LevelKind r) = r ≡ resistance
+Belong resistance b n (ChangeKind p) = (b ≡ p * levels_max) × (n ≤ levels_max)
+Belong resistance b n WorkKind = Unit {0}
 
 -- One line more.
-put_sized : (i j : ℕ) (work : Work) (st : Store) → Sized st.works → Sized (put j (WorkEntry i work) st).works
+put_sized : (k : ℕ) (work : Work) (st : Store) → Sized st.works → Sized (put k (WorkEntry work) st).works
 unfolding put
-put_sized i j work st z =
+put_sized k work st z =
+    let i = k / levels_max in
     record {
       jobs = length-set st.works i _ ∙ z.jobs;
-      levels = λ k h.
-          at_set (λ (row : List Work). length row ≡ levels_max) st.works i k _ [] (z.levels k h)
-          (λ e. length-set (get_or st.works i []) j work ∙ z.levels i (omega arith));
+      levels = λ a h.
+          at_set (λ (row : List Work). length row ≡ levels_max) st.works i a _ [] (z.levels a h)
+          (λ e. length-set (get_or st.works i []) (k % levels_max) work ∙ z.levels i (omega arith));
     }
 
-put_kept : (resistance : ℕ) (kind : Kind) → Resists resistance kind → (j : ℕ) (entry : Entry) (st : Store) → Says kind j entry →
-    Kept resistance st → Kept resistance (put j entry st)
+put_kept : (resistance : ℕ) (kind : Kind) (b n : ℕ) → Belong resistance b n kind → (j : ℕ) (entry : Entry) (st : Store) → j < n →
+    Says kind j entry → Kept resistance st → Kept resistance (put (b + j) entry st)
 unfolding put
-put_kept resistance (LevelKind r) h j entry st s z =
+put_kept resistance (LevelKind r) b n h j entry st l s z =
     rw s.1
     (record {
       sized = z.sized;
-      power = λ k. at_set (Powered resistance) st.powers j k s.0 0 (z.power k) (λ e. rw (← h) s.2);
+      power = λ k. at_set (Powered resistance) st.powers (b + j) k s.0 0 (z.power k) (λ e. rw (← h) s.2);
       change = z.change;
       work = z.work;
     })
-put_kept resistance (ChangeKind p) h j entry st s z =
+put_kept resistance (ChangeKind p) b n h j entry st l s z =
+    let few : j < levels_max = omega (arith, h.1) in
+    let row : (b + j) / levels_max ≡ p = rw h.0 (digit_div p j levels_max few) in
+    let column : (b + j) % levels_max ≡ j = rw h.0 (digit_mod p j levels_max few) in
     rw s.1
     (record {
       sized = z.sized;
       power = z.power;
-      change = λ a b. at_put (Changed a b) st.changes p j a b s.0 no_change (z.change a b) (λ e d. rw (e, d) s.2);
+      change = λ a c. at_put (Changed a c) st.changes (b + j) a c s.0 no_change (z.change a c) (λ e d. rw (e ∙ row, d ∙ column) s.2);
       work = z.work;
     })
-put_kept resistance (WorkKind i) h j entry st s z =
+put_kept resistance WorkKind b n h j entry st l s z =
     rw s.1
     (record {
-      sized = put_sized i j s.0 st z.sized;
+      sized = put_sized (b + j) s.0 st z.sized;
       power = z.power;
       change = z.change;
-      work = λ a b. at_put Worked st.works i j a b s.0 no_work (z.work a b) (λ e d. s.2);
+      work = λ a c. at_put Worked st.works (b + j) a c s.0 no_work (z.work a c) (λ e d. s.2);
     })
 
 -- A block of lines.
-pub block_kept : (resistance : ℕ) (kind : Kind) → Resists resistance kind → (n j : ℕ) (r : Rest) (st : Store) →
-    Kept resistance st → Kept resistance (block_from kind n j r st).store
-block_kept resistance kind h = block_keeps (Kept resistance) kind (put_kept resistance kind h)
+pub block_kept : (resistance : ℕ) (kind : Kind) (b n j : ℕ) → Belong resistance b (j + n) kind → (r : Rest) (st : Store) →
+    Kept resistance st → Kept resistance (block_from kind b n j r st).store
+block_kept resistance kind b n j h r st =
+    block_keeps (Kept resistance) kind b (j + n) (put_kept resistance kind b (j + n) h) n j r st (omega arith)
 
 -- ---- the lower end of a job's time
 
@@ -235,39 +246,42 @@ abbrev pub Timed : Store → ℕ → ℕ → Type 0
 Timed st i j = 1 ≤ (work_at st i j).time
 
 -- A block of lines leaves no time at 0 that was not 0 before.
-put_stays : (kind : Kind) (a b j : ℕ) (entry : Entry) (st : Store) → Says kind j entry → Timed st a b → Timed (put j entry st) a b
+put_stays : (kind : Kind) (a c k j : ℕ) (entry : Entry) (st : Store) → Says kind j entry → Timed st a c → Timed (put k entry st) a c
 unfolding put
-put_stays (LevelKind r) a b j entry st s h = rw s.1 h
-put_stays (ChangeKind p) a b j entry st s h = rw s.1 h
-put_stays (WorkKind i) a b j entry st s h = rw s.1 (at_put (λ (w : Work). 1 ≤ w.time) st.works i j a b s.0 no_work h (λ e d. s.3))
+put_stays (LevelKind r) a c k j entry st s h = rw s.1 h
+put_stays (ChangeKind p) a c k j entry st s h = rw s.1 h
+put_stays WorkKind a c k j entry st s h = rw s.1 (at_put (λ (w : Work). 1 ≤ w.time) st.works k a c s.0 no_work h (λ e d. s.3))
 
-pub block_stays : (kind : Kind) (n j : ℕ) (r : Rest) (st : Store) (a b : ℕ) → Timed st a b → Timed (block_from kind n j r st).store a b
-block_stays kind n j r st a b = block_keeps (λ s. Timed s a b) kind (put_stays kind a b) n j r st
+pub block_stays : (kind : Kind) (b n j : ℕ) (r : Rest) (st : Store) (a c : ℕ) → Timed st a c → Timed (block_from kind b n j r st).store a c
+block_stays kind b n j r st a c =
+    block_keeps (λ s. Timed s a c) kind b (j + n) (λ i entry s l. put_stays kind a c (b + i) i entry s) n j r st (omega arith)
 
 -- A time that was put is there.
-put_timed : (i j : ℕ) (work : Work) (st : Store) → i < jobs_max → j < levels_max → Sized st.works → 1 ≤ work.time → Timed (put j (WorkEntry i work) st) i j
+put_timed : (i j : ℕ) (work : Work) (st : Store) → i < jobs_max → j < levels_max → Sized st.works → 1 ≤ work.time →
+    Timed (put (i * levels_max + j) (WorkEntry work) st) i j
 unfolding put
 put_timed i j work st h l z w =
     let row = get_or st.works i [] in
     let x : i < length st.works = omega (arith, z.jobs) in
     let y : j < length row = omega (arith, z.levels i h) in
-    rw (get_or-set_same st.works i (set row j work) [] x, get_or-set_same row j work no_work y) w
+    rw (digit_div i j levels_max l, digit_mod i j levels_max l, get_or-set_same st.works i (set row j work) [] x, get_or-set_same row j work no_work y) w
 
 -- Where the B lines of a job are sound, their times are at least 1.
 module _ (i : ℕ) (few : i < jobs_max) where
-  pub work_timed : (n j : ℕ) (r : Rest) (st : Store) → j + n ≤ levels_max → Sized st.works → (end : Rest) → (block_from (WorkKind i) n j r st).read ≡ Ok end →
-      (b : ℕ) → j ≤ b → b < j + n → Timed (block_from (WorkKind i) n j r st).store i b
+  pub work_timed : (n j : ℕ) (r : Rest) (st : Store) → j + n ≤ levels_max → Sized st.works → (end : Rest) →
+      (block_from WorkKind (i * levels_max) n j r st).read ≡ Ok end → (b : ℕ) → j ≤ b → b < j + n →
+      Timed (block_from WorkKind (i * levels_max) n j r st).store i b
   unfolding block_from
   work_timed zero j r st h z end = λ e b lo hi. absurd (omega arith)
   work_timed (suc n) j r st h z end =
-      let read = fields_for (WorkKind i) j in
+      let read = fields_for WorkKind j in
       after_cases (λ (f : Found). f.read ≡ Ok end → (b : ℕ) → j ≤ b → b < j + suc n → Timed f.store i b) (next_by read r) _ _ (λ f q e. absurd cc)
       (λ line q e b lo hi.
-      let s = says (WorkKind i) j _ line.0 (line_read read r line q).says in
-      let new = put j line.0 st in
+      let s = says WorkKind j _ line.0 (line_read read r line q).says in
+      let new = put (i * levels_max + j) line.0 st in
       let now : Timed new i j = rw s.1 (put_timed i j s.0 st few (omega arith) z s.3) in
-      let sized : Sized new.works = rw s.1 (put_sized i j s.0 st z) in
+      let sized : Sized new.works = rw s.1 (put_sized (i * levels_max + j) s.0 st z) in
       elim (ℕ_discrete b j) [
-        | yes d ↦ rw d (block_stays (WorkKind i) n (j + 1) line.1 new i j now)
+        | yes d ↦ rw d (block_stays WorkKind (i * levels_max) n (j + 1) line.1 new i j now)
         | no d ↦ work_timed n (j + 1) line.1 new (omega arith) sized end e b (omega arith) (omega arith)
       ])

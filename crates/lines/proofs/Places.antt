@@ -30,7 +30,7 @@ for_field (Level resistance) j line =
     after_field (fields_of 76 level_ranges line) _ (fields_field 76 level_ranges line (omega arith))
     (λ vs e. cond_cases FieldLe (ltb temperature_max (steady_state (get_or vs 0 0) resistance)) _ _ (λ c. omega arith) (λ c. tt))
 for_field (Change p) j line = after_field (fields_of 83 (change_ranges p j) line) _ (fields_field 83 (change_ranges p j) line (omega arith)) (λ vs e. tt)
-for_field (Work i) j line = after_field (fields_of 66 work_ranges line) _ (fields_field 66 work_ranges line (omega arith)) (λ vs e. tt)
+for_field Work j line = after_field (fields_of 66 work_ranges line) _ (fields_field 66 work_ranges line (omega arith)) (λ vs e. tt)
 
 -- The reading stopped at line `most` at the latest, and a fault is of field 11 at the latest.
 pub record Placed (most : ℕ) (f : Found) : Type 0 where
@@ -55,14 +55,14 @@ module _ (most : ℕ) (st : Store) where
       }
 
 -- A block of n lines.
-pub block_placed : (kind : Kind) (n j : ℕ) (r : Rest) (st : Store) → Placed (r.line + n) (block_from kind n j r st)
+pub block_placed : (kind : Kind) (b n j : ℕ) (r : Rest) (st : Store) → Placed (r.line + n) (block_from kind b n j r st)
 unfolding block_from
-block_placed kind zero j r st = placed_end _ st r (omega arith)
-block_placed kind (suc n) j r st =
+block_placed kind b zero j r st = placed_end _ st r (omega arith)
+block_placed kind b (suc n) j r st =
     after_cases (Placed (r.line + suc n)) (next_by (fields_for kind j) r) _ _
     (λ f e. let p = line_fault (fields_for kind j) r f (for_field kind j (until 10 r.text)) e in placed_stop _ st f (omega (arith, p.line)) p.field)
     (λ line e.
-    let next = block_placed kind n (j + 1) line.1 (put j line.0 st) in
+    let next = block_placed kind b n (j + 1) line.1 (put (b + j) line.0 st) in
     let p = line_read (fields_for kind j) r line e in
     let q : line.1.line + n ≡ r.line + suc n = rw p.rest (omega arith) in
     rw q at next)

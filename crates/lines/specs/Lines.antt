@@ -21,10 +21,11 @@ pub record Found : Type 0 where
 abbrev pub stop : Store → LineFault → Found
 stop st f = record { read = Err f; store = st }
 
--- The next n lines of a kind, from its line j on.
-unfoldable pub block_from : Kind → ℕ → ℕ → Rest → Store → Found
-block_from kind zero j r st = record { read = Ok r; store = st }
-block_from kind (suc n) j r st = after (next_by (fields_for kind j) r) (stop st) (λ line. block_from kind n (j + 1) line.1 (put j line.0 st))
+-- The next n lines of a kind, from its line j on; the figures go to place from b + j on.
+unfoldable pub block_from : Kind → ℕ → ℕ → ℕ → Rest → Store → Found
+block_from kind b zero j r st = record { read = Ok r; store = st }
+block_from kind b (suc n) j r st =
+    after (next_by (fields_for kind j) r) (stop st) (λ line. block_from kind b n (j + 1) line.1 (put (b + j) line.0 st))
 
 -- What was read, with the store that it left.
 abbrev pub found_in : Result Place LineFault → Store → Found
@@ -40,11 +41,12 @@ pub record Taken : Type 0 where
 abbrev pub rest_behind : ℕ → Rest → Rest
 rest_behind n r = record { line = r.line + 1; text = drop n r.text }
 
--- Of the next n lines of a kind, from its line j on, those before the first that is not taken; the lines before line j count as taken.
-unfoldable pub taken_from : Kind → ℕ → ℕ → Rest → Store → Taken
-taken_from kind zero j r st = record { count = j; rest = r; store = st }
-taken_from kind (suc n) j r st =
-    option_map_or (λ line. taken_from kind n (j + 1) (rest_behind line.1 r) (put j line.0 st)) (entry_taken kind j r.text)
+-- Of the next n lines of a kind, from its line j on, those before the first that is not taken; the lines before line j count as taken,
+-- and the figures go to place from b + j on.
+unfoldable pub taken_from : Kind → ℕ → ℕ → ℕ → Rest → Store → Taken
+taken_from kind b zero j r st = record { count = j; rest = r; store = st }
+taken_from kind b (suc n) j r st =
+    option_map_or (λ line. taken_from kind b n (j + 1) (rest_behind line.1 r) (put (b + j) line.0 st)) (entry_taken kind j r.text)
     (record { count = j; rest = r; store = st })
 
 -- What was taken, with the store that it left.

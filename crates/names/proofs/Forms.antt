@@ -20,6 +20,7 @@ use Rattle.line_kinds.specs.Figures.{fields_for, put}
 use Rattle.line_kinds.specs.declared.Kind.{Kind}
 use Rattle.line_kinds.specs.declared.Kind.TheVariants.{Level, Change, Work}
 use Rattle.fields.proofs.After.{after_cases, cond_ok}
+use Rattle.store.specs.Store.{levels_max}
 use Rattle.store.specs.declared.Store.{Store}
 use Rattle.store.specs.Figures.{clear}
 use Rattle.body.specs.Body.{onward, changes_from, jobs_from, body_from, lines_before}
@@ -86,12 +87,12 @@ line_passes : {A : Type 0} {n : ℕ} {t : List ℕ} (read : List ℕ → Result 
 line_passes read r x e p = let l = line_read read r x e in passed_more l.ends (rw l.rest at p)
 
 -- The lines of a block.
-block_passes : (kind : Kind) (n j : ℕ) (r : Rest) (st : Store) → Passes n r (block_from kind n j r st)
+block_passes : (kind : Kind) (b n j : ℕ) (r : Rest) (st : Store) → Passes n r (block_from kind b n j r st)
 unfolding block_from
-block_passes kind zero j r st = λ end e. let q : r ≡ end = cc in rw (← q) (passed_none r.text)
-block_passes kind (suc n) j r st =
+block_passes kind b zero j r st = λ end e. let q : r ≡ end = cc in rw (← q) (passed_none r.text)
+block_passes kind b (suc n) j r st =
     after_cases (Passes (suc n) r) (next_by (fields_for kind j) r) _ _ (λ fault q end e. absurd cc)
-    (λ line q end e. line_passes (fields_for kind j) r line q (block_passes kind n (j + 1) line.1 (put j line.0 st) end e))
+    (λ line q end e. line_passes (fields_for kind j) r line q (block_passes kind b n (j + 1) line.1 (put (b + j) line.0 st) end e))
 
 -- The S lines.
 changes_passes : (l n p : ℕ) (r : Rest) (st : Store) → Passes (n * l) r (changes_from l n p r st)
@@ -102,7 +103,7 @@ changes_passes l zero p r st = λ end e.
     rw (z, ← q) (passed_none r.text)
 changes_passes l (suc n) p r st =
     let z : suc n * l ≡ l + n * l = omega arith in
-    rw z (onward_passes r (block_from (Change p) l 0 r st) (changes_from l n (p + 1)) (block_passes (Change p) l 0 r st) (changes_passes l n (p + 1)))
+    rw z (onward_passes r (block_from (Change p) (p * levels_max) l 0 r st) (changes_from l n (p + 1)) (block_passes (Change p) (p * levels_max) l 0 r st) (changes_passes l n (p + 1)))
 
 -- ---- the names of jobs
 
@@ -152,20 +153,20 @@ jobs_named l (suc n) i r st end =
     let z : l + 1 ≡ suc l = omega arith in
     after_cases (λ (f : Found). f.read ≡ Ok end → Named l (suc n) 0 r.text end.text) (next_by name_fault r) _ _ (λ fault q e. absurd cc)
     (λ name q e.
-    let f = block_from (Work i) l 0 name.1 st in
+    let f = block_from Work (i * levels_max) l 0 name.1 st in
     let s = onward_sound f (jobs_from l n (i + 1)) end e in
     named_more (name_formed (until 10 r.text) (line_read name_fault r name q).says)
-    (rw z (line_passes name_fault r name q (block_passes (Work i) l 0 name.1 st s.0 s.1)))
+    (rw z (line_passes name_fault r name q (block_passes Work (i * levels_max) l 0 name.1 st s.0 s.1)))
     (jobs_named l n (i + 1) s.0 f.store end s.2))
 
 body_named : (m l resistance : ℕ) (r : Rest) (st : Store) (end : Rest) → (body_from m l resistance r st).read ≡ Ok end →
     Named l m (l + l * l) r.text end.text
 unfolding body_from
 body_named m l resistance r st end e =
-    let f = block_from (Level resistance) l 0 r st in
+    let f = block_from (Level resistance) 0 l 0 r st in
     let g = onward f (changes_from l l 0) in
     let s = onward_sound g (jobs_from l m 0) end e in
-    let p = onward_passes r f (changes_from l l 0) (block_passes (Level resistance) l 0 r st) (changes_passes l l 0) s.0 s.1 in
+    let p = onward_passes r f (changes_from l l 0) (block_passes (Level resistance) 0 l 0 r st) (changes_passes l l 0) s.0 s.1 in
     let z : l + l * l + 0 ≡ l + l * l = omega arith in
     rw z at (named_add p (jobs_named l m 0 s.0 g.store end s.2))
 

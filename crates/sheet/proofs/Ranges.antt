@@ -2,7 +2,7 @@
 -- Assumes nothing.
 use mathlib.Core.Path.{◌≡◌, refl, sym, ap, subst}
 use mathlib.Core.List.{List}
-use Prim.Native.Nat.{ℕ, zero, suc, ◌+◌, ◌≤◌, ◌<◌}
+use Prim.Native.Nat.{ℕ, zero, suc, ◌+◌, ◌*◌, ◌≤◌, ◌<◌}
 use native.Mathlib.Decide.{dec_lt}
 use native.Mathlib.Omega.{arith}
 use Rattle.std.specs.Prelude.{None, Result, Ok, Err, IfOk}
@@ -41,8 +41,8 @@ module _ (resistance m l : ℕ) (jobs : m ≤ jobs_max) (few : l ≤ levels_max)
   unfolding changes_from
   changes_kept zero p r st z = z
   changes_kept (suc n) p r st z =
-      let f = block_from (Change p) l 0 r st in
-      let y = block_kept resistance (Change p) tt l 0 r st z in
+      let f = block_from (Change p) (p * levels_max) l 0 r st in
+      let y = block_kept resistance (Change p) (p * levels_max) l 0 (refl, omega arith) r st z in
       after_cases (λ (g : Found). Kept resistance g.store) f.read _ _ (λ e q. y) (λ end q. changes_kept n (p + 1) end f.store y)
 
   -- The lines of the next n jobs, with the times of i jobs in the store.
@@ -54,12 +54,12 @@ module _ (resistance m l : ℕ) (jobs : m ≤ jobs_max) (few : l ≤ levels_max)
       let P = Filled resistance m l in
       after_cases P (next_by name_fault r) _ _ (λ e q. stopped st e z)
       (λ name q.
-      let f = block_from (Work i) l 0 name.1 st in
-      let y = block_kept resistance (Work i) tt l 0 name.1 st z in
+      let f = block_from Work (i * levels_max) l 0 name.1 st in
+      let y = block_kept resistance Work (i * levels_max) l 0 tt name.1 st z in
       after_cases P f.read _ _ (λ e s. stopped f.store e y)
       (λ end s. jobs_filled n (i + 1) end f.store (omega arith) y
       (λ a j x u. elim (dec_lt a i) [
-        | yes d ↦ block_stays (Work i) l 0 name.1 st a j (w a j d u)
+        | yes d ↦ block_stays Work (i * levels_max) l 0 name.1 st a j (w a j d u)
         | no d ↦
             let q : a ≡ i = omega arith in
             rw q (work_timed i (omega arith) l 0 name.1 st (omega arith) z.sized end s j (omega arith) (omega arith))
@@ -69,8 +69,8 @@ module _ (resistance m l : ℕ) (jobs : m ≤ jobs_max) (few : l ≤ levels_max)
   body_filled : (r : Rest) (st : Store) → Kept resistance st → Filled resistance m l (body_from m l resistance r st)
   unfolding body_from
   body_filled r st z =
-      let f = block_from (Level resistance) l 0 r st in
-      let y = block_kept resistance (Level resistance) refl l 0 r st z in
+      let f = block_from (Level resistance) 0 l 0 r st in
+      let y = block_kept resistance (Level resistance) 0 l 0 refl r st z in
       let g = onward f (changes_from l l 0) in
       let w = after_cases (λ (h : Found). Kept resistance h.store) f.read _ _ (λ e q. y) (λ end q. changes_kept l 0 end f.store y) in
       after_cases (Filled resistance m l) g.read _ _ (λ e q. stopped g.store e w)

@@ -24,7 +24,7 @@ returns-in_ok-numbers-in-Change c =
     rw c.change_entry.ensures (change _ _ _ _ c.in-Change.is _ c.cost_range-range.ensures c.in_ok-numbers-in-Change.ensures)
 
 pub returns-in_err-numbers-in-Work : goal.returns-in_err-numbers-in-Work
-returns-in_err-numbers-in-Work c = c.from_residual-in_err-numbers-in-Work.ensures ∙ work _ _ _ _ c.in-Work.is c.in_err-numbers-in-Work.ensures
+returns-in_err-numbers-in-Work c = c.from_residual-in_err-numbers-in-Work.ensures ∙ work _ _ _ c.in-Work.is c.in_err-numbers-in-Work.ensures
 
 pub returns-in_ok-numbers-in-Work : goal.returns-in_ok-numbers-in-Work
-returns-in_ok-numbers-in-Work c = rw c.work_entry.ensures (work _ _ _ _ c.in-Work.is c.in_ok-numbers-in-Work.ensures)
+returns-in_ok-numbers-in-Work c = rw c.work_entry.ensures (work _ _ _ c.in-Work.is c.in_ok-numbers-in-Work.ensures)

@@ -1,13 +1,19 @@
 -- `put_entry` leaves the store that the definition says, by what the line says.
 use mathlib.Core.Path.{refl}
-use Rattle.line_kinds.specs.Figures.{put}
+use native.Mathlib.Omega.{arith}
+use Prim.Native.Nat.{◌<◌}
+use Rattle.store.specs.Store.{levels_max}
+use Rattle.line_kinds.specs.Figures.{changes_max, works_max, put}
 use Rattle.line_kinds.proofs.put_entry.Goals as goal
 
-pub bounds-store-p : goal.bounds-store-p
-bounds-store-p c = rw c.in-Change.is at c.requires.1
+pub bounds-store-k : goal.bounds-store-k
+bounds-store-k c = let h : c.args.k < levels_max = rw c.in-Level.is at c.requires in omega arith
 
-pub bounds-store-i : goal.bounds-store-i
-bounds-store-i c = rw c.in-Work.is at c.requires.1
+pub bounds-store-k-in-Change : goal.bounds-store-k-in-Change
+bounds-store-k-in-Change c = let h : c.args.k < changes_max = rw c.in-Change.is at c.requires in omega arith
+
+pub bounds-store-k-in-Work : goal.bounds-store-k-in-Work
+bounds-store-k-in-Work c = let h : c.args.k < works_max = rw c.in-Work.is at c.requires in omega arith
 
 pub returns-in-Level : goal.returns-in-Level
 unfolding put

@@ -24,7 +24,7 @@ returns-in_ok-numbers-in-Change c =
 pub returns-in_err-numbers-in-Work : goal.returns-in_err-numbers-in-Work
 returns-in_err-numbers-in-Work c =
     let p = err_from_is_err_and c.from_residual-in_err-numbers-in-Work.result c.from_residual-in_err-numbers-in-Work.ensures.1 in
-    rw (p.1, p.2) (for_work_fault _ _ _ _ c.in-Work.is _ (sym c.in_err-numbers-in-Work.ensures))
+    rw (p.1, p.2) (for_work_fault _ _ _ c.in-Work.is _ (sym c.in_err-numbers-in-Work.ensures))
 
 pub returns-in_ok-numbers-in-Work : goal.returns-in_ok-numbers-in-Work
-returns-in_ok-numbers-in-Work c = rw c.work_entry.ensures (for_work _ _ _ _ c.in-Work.is _ (sym c.in_ok-numbers-in-Work.ensures))
+returns-in_ok-numbers-in-Work c = rw c.work_entry.ensures (for_work _ _ _ c.in-Work.is _ (sym c.in_ok-numbers-in-Work.ensures))

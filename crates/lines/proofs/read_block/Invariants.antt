@@ -6,4 +6,6 @@ use Rattle.lines.specs.Lines.{block_from}
 use Rattle.lines.proofs.read_block.Given as goal
 
 abbrev pub invariant-loop-j : goal.invariant-loop-j
-invariant-loop-j l = block_from l.kind l.n 0 (rest_of l.start) l.fn.store ≡ block_from l.kind (l.n - l.j-counter) l.j-counter (rest_of l.place) l.store
+invariant-loop-j l =
+    block_from l.kind l.base l.n 0 (rest_of l.start) l.fn.store
+    ≡ block_from l.kind l.base (l.n - l.j-counter) l.j-counter (rest_of l.place) l.store

@@ -6,4 +6,5 @@ use Rattle.lines.specs.Lines.{taken_from}
 use Rattle.lines.proofs.take_lines.Given as goal
 
 abbrev pub invariant-loop-j : goal.invariant-loop-j
-invariant-loop-j l = taken_from l.kind l.n 0 (rest_of l.start) l.fn.store ≡ taken_from l.kind (l.n - l.j) l.j (rest_of l.place) l.store
+invariant-loop-j l =
+    taken_from l.kind l.base l.n 0 (rest_of l.start) l.fn.store ≡ taken_from l.kind l.base (l.n - l.j) l.j (rest_of l.place) l.store
