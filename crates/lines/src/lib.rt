@@ -10,8 +10,8 @@ use reading::{LineFault, Place};
 use store::Store;
 
 // Takes lines of a block of n lines of a kind to the places of the store from `base` on, each in one pass, up to one that is not taken:
-// how many, and the place behind them. A loop of its own: with one that also reads lines field by field the longest
-// sheet takes 1.26 times the plain C, and misses its bar of 1.20 in docs/PERFORMANCE.md.
+// how many, and the place behind them. A loop of its own: with one that also reads lines field by field the longest sheet takes 1.26
+// times the plain C, and misses its bar of 1.20 in docs/PERFORMANCE.md.
 fn take_lines<'a>(
     start: Place<'a>,
     kind: Kind,
