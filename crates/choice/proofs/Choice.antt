@@ -17,10 +17,10 @@ use Rattle.frame.specs.Table.{need}
 use Rattle.run.specs.Run.{state_of}
 use Rattle.run.specs.declared.Run.{Run}
 use Rattle.table.specs.declared.axes.Frame.{Frame}
-use Rattle.table.specs.Table.{Axes, AtCell, Holds}
+use Rattle.table.specs.Table.{Axes, AtCell, Holds, head_axes}
 use Rattle.table.proofs.Ways.{next_level, next_done, next_peak, next_at_cell, cost_energy, cost_temperature, cost_within}
 use Rattle.lookup.specs.Lookup.{rest_by, rest_in, Looks}
-use Rattle.lookup.proofs.Lookup.{rest_is, rest_least, looks}
+use Rattle.lookup.proofs.Lookup.{same_axes, rest_is, rest_least, looks}
 
 -- ---- the first of the least
 
@@ -99,10 +99,10 @@ module _ {s : Sheet} {f : Frame} (x : Axes s f) {a : State} (c : AtCell s a) {j 
       sym (rw (← after_cell) (cost_temperature s (state_of b) _ (omega (arith, x.energy_budget)) (omega (arith, x.temperature_limit))))
 
   module _ (u : b.energy ≤ f.head.energy_budget) (v : b.peak ≤ f.head.temperature_limit) where
-    pub way_within : (t : List ℕ) (r : ℕ) → r ≡ rest_in f t b → min infeasible (b.time + r) ≡ via s (rest_by s t) a j
+    pub way_within : (t : List ℕ) (r : ℕ) → r ≡ rest_in (head_axes f) t b → min infeasible (b.time + r) ≡ via s (rest_by s t) a j
     unfolding via
     way_within t r q =
-        rw (← after_cell, q, rest_is x b t)
+        rw (← after_cell, q, rest_is (same_axes x) b t)
         (sym (cost_within s (state_of b) (rest_by s t (state_of b)) (omega (arith, x.energy_budget)) (omega (arith, x.temperature_limit))))
 
     way_level : b.level ≡ j
@@ -118,5 +118,5 @@ module _ {s : Sheet} {f : Frame} (x : Axes s f) {a : State} (c : AtCell s a) {j 
           x.temperature_limit,
         )
 
-    pub way_looks : {n : ℕ} → need s ≤ n → b.done < f.head.jobs → Looks f b n
-    way_looks h d = looks x b (rw way_level l) (omega (arith, x.energy_budget)) way_cool h d
+    pub way_looks : {n : ℕ} → need s ≤ n → b.done < f.head.jobs → Looks (head_axes f) b n
+    way_looks h d = looks (same_axes x) x.ranges x.allowed b (rw way_level l) (omega (arith, x.energy_budget)) way_cool h d

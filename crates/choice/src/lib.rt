@@ -33,7 +33,7 @@ fn way(problem: &Problem, table: &[u32], a: Run, j: u32) -> u64
     if (f.head.temperature_limit as u64) < b.peak {
         return INFEASIBLE;
     }
-    let t = b.time + rest_of(f, table, b);
+    let t = b.time + rest_of(f.axes(), table, b);
     t.min(INFEASIBLE)
 }
 

@@ -11,10 +11,11 @@ use Rattle.store.specs.declared.Head.{Head}
 use Rattle.store.specs.Store.{jobs_max, levels_max}
 use Rattle.store.specs.Figures.{sheet_of}
 use Rattle.table.specs.declared.axes.Frame.{Frame}
+use Rattle.table.specs.declared.axes.HeadAxes.{HeadAxes}
 use Rattle.table.specs.Bounds.{Bounded}
-use Rattle.table.specs.Table.{Axes}
+use Rattle.table.specs.Table.{Axes, head_axes}
 use Rattle.table.proofs.Frames.{rows_most, columns_most}
-use Rattle.need.specs.Axes.{Lawful, HeadAxes, bare, head_axes, axes_of}
+use Rattle.need.specs.Axes.{Lawful, bare, axes_of}
 
 -- A lawful head has the ranges that a frame asks for.
 pub bounded : (h : Head) → Lawful h → Bounded h

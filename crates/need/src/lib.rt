@@ -3,7 +3,8 @@
 // The table that a sheet needs: its axes, and how many words it has.
 ghost use Rattle.std.specs.Prelude.{◌≡◌, ◌<◌, ◌^◌, IfOk};
 ghost use Rattle.frame.specs.Table.{need};
-ghost use Rattle.need.specs.Axes.{Lawful, bare, head_axes, axes_of};
+ghost use Rattle.table.specs.Table.{head_axes};
+ghost use Rattle.need.specs.Axes.{Lawful, bare, axes_of};
 ghost use Rattle.need.specs.Need.{words_of};
 
 use refusal::Refusal;

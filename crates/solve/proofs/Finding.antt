@@ -24,9 +24,10 @@ use Rattle.refusal.specs.declared.Refusal.TheVariants.{NoPlan}
 use Rattle.run.specs.Run.{state_of}
 use Rattle.run.specs.declared.Run.{Run}
 use Rattle.table.specs.declared.axes.Frame.{Frame}
-use Rattle.table.specs.Table.{Axes}
+use Rattle.table.specs.declared.axes.HeadAxes.{HeadAxes}
+use Rattle.table.specs.Table.{Axes, head_axes}
 use Rattle.lookup.specs.Lookup.{Looks, rest_in}
-use Rattle.lookup.proofs.Lookup.{rest_is, rest_least, looks}
+use Rattle.lookup.proofs.Lookup.{same_axes, rest_is, rest_least, looks}
 use Rattle.table.proofs.Cells.{filled_words}
 use Rattle.walk.specs.Walk.{Starts}
 use Rattle.reply.specs.Reply.{Reply, planned_as, reply_by}
@@ -36,12 +37,13 @@ use Rattle.solve.specs.Solve.{refusal_in, Finds}
 -- ---- the start's word
 
 module _ {s : Sheet} {f : Frame} (x : Axes s f) (b : Run) (w : Readable s (state_of b)) (u : b.energy ≤ s.energy_budget) where
-  pub start_looks : {n : ℕ} → need s ≤ n → b.done < f.head.jobs → Looks f b n
-  start_looks h d = looks x b w.range.level u w.temperature h d
+  pub start_looks : {n : ℕ} → need s ≤ n → b.done < f.head.jobs → Looks (head_axes f) b n
+  start_looks h d = looks (same_axes x) x.ranges x.allowed b w.range.level u w.temperature h d
 
-  pub start_rest : (words words' : List ℕ) (k : ℕ) → need s ≤ length words → words' ≡ filled s words → k ≡ rest_in f words' b → k ≡ least s (s.jobs - b.done) (state_of b)
-  start_rest words words' k room t q =
-      q ∙ rest_is x b words' ∙ rest_least x.ranges (state_of b) (rw t (filled_words s words b.done room)) w.range.level u w.temperature
+  pub start_rest : (words words' : List ℕ) (k : ℕ) {g : HeadAxes} → need s ≤ length words → words' ≡ filled s words → g ≡ head_axes f → k ≡ rest_in g words' b →
+      k ≡ least s (s.jobs - b.done) (state_of b)
+  start_rest words words' k room t e q =
+      rw e at q ∙ rest_is (same_axes x) b words' ∙ rest_least x.ranges (state_of b) (rw t (filled_words s words b.done room)) w.range.level u w.temperature
 
 -- ---- what is found
 

@@ -28,7 +28,7 @@ fn find_plan(
     if (f.head.energy_budget as u64) < start.energy {
         return Err(Refusal::NoPlan);
     }
-    let least = lookup::rest_of(f, table, start);
+    let least = lookup::rest_of(f.axes(), table, start);
     if (f.head.deadline as u64) < start.time + least {
         return Err(Refusal::NoPlan);
     }

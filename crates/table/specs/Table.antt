@@ -10,10 +10,15 @@ use Rattle.run.specs.declared.Run.{Run}
 use Rattle.store.specs.declared.Store.{Store}
 use Rattle.step.specs.Store.{Stored}
 use Rattle.table.specs.declared.axes.Frame.{Frame}
+use Rattle.table.specs.declared.axes.HeadAxes.{HeadAxes}
 
 -- A raised energy is below W and one step more, each at most 2,000,000,000.
 abbrev pub raised_energy_max : ℕ
 raised_energy_max = limit_max + limit_max
+
+-- The head and the axes of a frame.
+abbrev pub head_axes : Frame → HeadAxes
+head_axes f = record { head = f.head; energy_cells = f.energy_cells; temperature_cells = f.temperature_cells }
 
 -- The frame is that of the sheet, and its axes those of the sheet's table, "allowed" in size.
 pub record Axes (s : Sheet) (f : Frame) : Type 0 where

@@ -15,7 +15,28 @@ pub struct Frame {
     pub ghost columns: { temperature_cells ≡ ceil_div head.temperature_limit head.temperature_step + 1 },
 }
 
+// A head, and a number of cells for each axis, whatever they are: a look-up serves a frame's and any others.
+#[derive(Clone, Copy)]
+pub struct HeadAxes {
+    pub head: Head,
+    pub energy_cells: usize,
+    pub temperature_cells: usize,
+}
+
 impl Frame {
+    ghost use Rattle.table.specs.Table.{head_axes};
+
+    // The frame's head and axes alone.
+    pub fn axes(self) -> HeadAxes
+        ensures { result ≡ head_axes self }
+    {
+        HeadAxes {
+            head: self.head,
+            energy_cells: self.energy_cells,
+            temperature_cells: self.temperature_cells,
+        }
+    }
+
     // The energy cell to which an energy is raised.
     pub fn energy_cell(self, energy: u32) -> u32
         ensures { result ≡ ceil_div energy self.head.energy_step }

@@ -3,7 +3,7 @@
 mod axes;
 mod problem;
 
-pub use axes::Frame;
+pub use axes::{Frame, HeadAxes};
 pub use problem::Problem;
 
 // "need above 4,194,304 words" is refused.

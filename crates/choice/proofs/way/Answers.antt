@@ -16,16 +16,18 @@ returns-then-f-b-2 c =
     way_temperature p.axes c.requires.at c.requires.level _ (c.next_job-b.ensures _ p.stored) _ c.if-f-b.false c.if-f-b-2.true
 
 pub rest_of-requires : goal.rest_of-requires
-rest_of-requires c = λ d.
+rest_of-requires c =
     let p = c.args.problem.now.framed in
-    way_looks p.axes c.requires.at c.requires.level _ (c.next_job-b.ensures _ p.stored) c.if-f-b.false c.if-f-b-2.false c.requires.room d
+    rw c.axes.ensures
+    (λ d.
+    way_looks p.axes c.requires.at c.requires.level _ (c.next_job-b.ensures _ p.stored) c.if-f-b.false c.if-f-b-2.false c.requires.room d)
 
 pub overflow_add-t : goal.overflow_add-t
 overflow_add-t c =
     let p = c.args.problem.now.framed in
-    omega (arith, way_short p.axes c.requires.at c.requires.level _ (c.next_job-b.ensures _ p.stored), c.rest_of.ensures, rest_small c.args.problem.now.frame c.args.table.now c.next_job-b.result (search rules))
+    omega (arith, way_short p.axes c.requires.at c.requires.level _ (c.next_job-b.ensures _ p.stored), c.rest_of.ensures, rest_small c.axes.result c.args.table.now c.next_job-b.result (search rules))
 
 pub returns : goal.returns
 returns c =
     let p = c.args.problem.now.framed in
-    omega (arith, way_within p.axes c.requires.at c.requires.level _ (c.next_job-b.ensures _ p.stored) c.if-f-b.false c.if-f-b-2.false _ _ c.rest_of.ensures)
+    omega (arith, way_within p.axes c.requires.at c.requires.level _ (c.next_job-b.ensures _ p.stored) c.if-f-b.false c.if-f-b-2.false _ _ (rw c.axes.ensures at c.rest_of.ensures))

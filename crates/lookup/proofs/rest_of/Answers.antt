@@ -5,10 +5,10 @@ use lib.ListN.{get_or}
 use Rattle.lookup.proofs.Lookup.{rest_word, rest_none}
 use Rattle.lookup.proofs.rest_of.Goals as goal
 
-pub returns-then-b-f : goal.returns-then-b-f
-returns-then-b-f c =
+pub returns-then-b-axes : goal.returns-then-b-axes
+returns-then-b-axes c =
     let a = c.args in
-    ap (λ (k : ℕ). get_or a.table.now k 0) c.place_of-k.ensures ∙ sym (rest_word a.f a.table.now a.b c.if-b-f.true)
+    ap (λ (k : ℕ). get_or a.table.now k 0) c.place_of-k.ensures ∙ sym (rest_word a.axes a.table.now a.b c.if-b-axes.true)
 
-pub returns-else-b-f : goal.returns-else-b-f
-returns-else-b-f c = sym (rest_none _ _ _ c.if-b-f.false)
+pub returns-else-b-axes : goal.returns-else-b-axes
+returns-else-b-axes c = sym (rest_none _ _ _ c.if-b-axes.false)

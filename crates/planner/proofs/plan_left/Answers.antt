@@ -15,7 +15,8 @@ use Rattle.run.specs.Run.{state_of}
 use Rattle.refusal.specs.declared.Refusal.{Refusal}
 use Rattle.refusal.proofs.Apart.{failed, passed}
 use Rattle.table.specs.declared.axes.Frame.{Frame}
-use Rattle.need.specs.Axes.{head_axes, axes_of, bare}
+use Rattle.table.specs.Table.{head_axes}
+use Rattle.need.specs.Axes.{axes_of, bare}
 use Rattle.need.proofs.Axes.{axes, need_sheet, sheet_is}
 use Rattle.checks.specs.Checks.{lack_of}
 use Rattle.checks.proofs.Checks.{lack_none, fault_passed}
