@@ -1,20 +1,15 @@
 -- The store's figures are the sheet's, and so a step on a sheet in its ranges may rest on them; the steady-state temperatures, one level
 -- at a time, are those of the definition.
 -- Assumes nothing.
-use mathlib.Core.Path.{◌≡◌, refl, ap, ◌∙◌}
+use mathlib.Core.Path.{◌≡◌, refl, ◌∙◌}
 use mathlib.Core.List.{List}
-use Prim.Native.Nat.{ℕ, zero, suc, ◌+◌, ◌≤◌, ◌<◌, ◌^◌}
+use Prim.Native.Nat.{ℕ, ◌+◌, ◌≤◌, ◌<◌, ◌^◌}
 use native.Mathlib.Omega.{arith}
-use lib.ListN.{length, get_or}
-use Rattle.std.specs.Array.{list_steps, MapsFrom, IsMapOf}
-use Rattle.std.specs.Iterator.{CallableAtEachTurn}
-use Rattle.std.specs.Fn.{Called}
-use denote.Param.Members.{Mut}
-use Rattle.std.proofs.lemmas.List.{get_or_default}
-use Rattle.std.proofs.lemmas.Iterator.Adapters.{serves_from_places}
-use Rattle.std.proofs.lemmas.Iterator.Consumers.{YieldsList-from_shown}
+use native.Mathlib.Decide.{dec_lt}
+use lib.ListN.{length, get_or, set, length-set}
+use lib.Seq.{get_or-set_same, get_or-set_other}
 use Rattle.thermal.specs.Thermal.{steady_state, raised_temperature_max}
-use Rattle.frame.specs.Sheet.{Sheet, Ranges, temperature_max}
+use Rattle.frame.specs.Sheet.{Sheet, Ranges}
 use Rattle.frame.proofs.Tabulate.{get_d_tabulate, tabulated}
 use Rattle.store.specs.declared.Head.{Head}
 use Rattle.store.specs.Store.{jobs_max, levels_max}
@@ -39,32 +34,27 @@ figures_stored {st} e h q =
           rw (e, ← q) (rw z at (get_d_tabulate (λ k. steady_state (power_at st k) h.resistance) 0 levels_max j hj));
     }
 
--- ---- the steady-state temperatures
+-- ---- the steady-state temperatures of the first n levels worked out
 
--- They may be worked out from the powers of a sheet in its ranges, one call each, as none of them is too high.
-pub powers_served : {F : Type 0} {R : F → ℕ → F → Type 0} {Q : F → ℕ → Type 0} {f : F} (h : Head) (st : Store) → Ranges (sheet_of h st) →
-    ((x : ℕ) (q : F) → R f x q → q ≡ f) → ((x : ℕ) → steady_state x h.resistance ≤ temperature_max → Q f x) → CallableAtEachTurn list_steps R Q st.powers f
-unfolding sheet_of
-powers_served h st r stays takes =
-    serves_from_places (YieldsList-from_shown list_steps (λ x. x) (λ s. s) (λ t u e. ap length e) (λ t x u e. e) st.powers) stays
-    (λ x k l e. takes x (rw (e ∙ get_or_default st.powers k x 0 l) (r.steady k)))
+pub record Worked (store : Store) (resistance : ℕ) (levels : List ℕ) (n : ℕ) : Type 0 where
+  pub long : length levels ≡ levels_max
+  pub within : (j : ℕ) → j < n → get_or levels j 0 ≡ steady_state (power_at store j) resistance
 
--- A map of n elements by calls that leave the closure as it was, element by element.
-mapped : {F : Type 0} (g : Mut F (ℕ × Unit {0}) ℕ) (h : ℕ → ℕ) (f : F) → ((x y : ℕ) (q : F) → Called g f (x, tt) y q → (q ≡ f) × (y ≡ h x)) →
-    (xs ys : List ℕ) (n i : ℕ) → MapsFrom g f xs ys i n → (k : ℕ) → k < n → get_or ys (i + k) 0 ≡ h (get_or xs (i + k) 0)
-mapped g h f w xs ys zero i m k l = absurd (omega arith)
-mapped g h f w xs ys (suc n) i m zero l = let z : i + 0 ≡ i = omega arith in rw (z, m.3.1 0, m.4.1 0) (w m.1 m.2 m.0 m.5).1
-mapped g h f w xs ys (suc n) i m (suc k) l =
-    let z : i + suc k ≡ i + 1 + k = omega arith in
-    rw z (mapped g h f w xs ys n (i + 1) (rw (w m.1 m.2 m.0 m.5).0 at m.6) k (omega arith))
+pub worked_more : {store : Store} {resistance : ℕ} {levels : List ℕ} {n : ℕ} (v : ℕ) → n < levels_max → v ≡ steady_state (power_at store n) resistance →
+    Worked store resistance levels n → Worked store resistance (set levels n v) (n + 1)
+worked_more {levels = levels} {n = n} v l e w =
+    record {
+      long = length-set levels n v ∙ w.long;
+      within = λ j h.
+          elim (dec_lt j n) [
+            | yes k ↦ get_or-set_other levels n j v 0 (λ q. absurd (omega arith)) ∙ w.within j k
+            | no k ↦ let q : j ≡ n = omega arith in rw q (get_or-set_same levels n v 0 (omega (arith, w.long)) ∙ e)
+          ];
+    }
 
-pub steadies_mapped : {F : Type 0} (g : Mut F (ℕ × Unit {0}) ℕ) (f : F) (st : Store) (resistance : ℕ) (levels : List ℕ) →
-    ((x y : ℕ) (q : F) → Called g f (x, tt) y q → (q ≡ f) × (y ≡ steady_state x resistance)) → IsMapOf g f st.powers levels levels_max →
-    levels ≡ steadies st resistance
+pub worked_all : {store : Store} {resistance : ℕ} {levels : List ℕ} {n : ℕ} → levels_max ≤ n → Worked store resistance levels n → levels ≡ steadies store resistance
 unfolding steadies
-steadies_mapped g f st resistance levels w m =
-    tabulated _ levels_max levels m.long
-    (λ i h. let z : 0 + i ≡ i = omega arith in rw z at (mapped g (λ x. steady_state x resistance) f w st.powers levels levels_max 0 m.each i h))
+worked_all {levels = levels} l w = tabulated _ levels_max levels w.long (λ i h. w.within i (omega arith))
 
 -- ---- a step
 

@@ -1,10 +1,11 @@
 #![tactic(auto)]
 
 ghost use Rattle.std.specs.Prelude.{◌≡◌, ℕ, ◌≤◌, ◌<◌, length, get_or};
-ghost use Rattle.frame.specs.Sheet.{Sheet, Ranges};
+ghost use Rattle.thermal.specs.Thermal.{steady_state};
+ghost use Rattle.frame.specs.Sheet.{Sheet, Ranges, temperature_max};
 ghost use Rattle.frame.specs.Run.{start, step, exact_run};
 ghost use Rattle.store.specs.Store.{jobs_max, levels_max};
-ghost use Rattle.store.specs.Figures.{change_at, sheet_of};
+ghost use Rattle.store.specs.Figures.{power_at, change_at, sheet_of};
 ghost use Rattle.store.specs.Sheet.{sheet_read};
 ghost use Rattle.store.specs.declared.Head.{Head};
 ghost use Rattle.store.specs.declared.Store.{Store};
@@ -14,6 +15,18 @@ ghost use Rattle.step.specs.Store.{steadies, job_in, Stored, Rests, Begun};
 use run::{Job, Run};
 use store::{Change, Head, LEVELS_MAX, ReadSheet, Store};
 
+// Works out the steady-state temperatures once, for all jobs.
+pub fn steady_states(store: &Store, resistance: u32) -> [u32; LEVELS_MAX]
+    requires { (j : ℕ) → j < levels_max → steady_state (power_at store.now j) resistance ≤ temperature_max }
+    ensures { result ≡ steadies store.now resistance }
+{
+    let mut levels = [0; LEVELS_MAX];
+    for (j, level) in levels.iter_mut().enumerate() {
+        *level = thermal::steady_state(store.powers[j], resistance) as u32;
+    }
+    levels
+}
+
 // A sheet's figures as a run takes them: those of its L, S and B lines, and the steady-state temperature of each level.
 #[derive(Clone, Copy)]
 pub struct Figures<'a> {
@@ -22,20 +35,15 @@ pub struct Figures<'a> {
 }
 
 impl<'a> Figures<'a> {
-    // Works out the steady-state temperatures once, for all jobs.
+    // Those of a sheet that was read.
     pub fn of(sheet: ReadSheet<'a>) -> Figures<'a>
         ensures store { result.store.now ≡ sheet.entry.store.now }
         ensures steady { result.steady ≡ steadies sheet.entry.store.now sheet.entry.head.resistance }
         ensures stored { Stored (sheet_read sheet.entry) result.store.now result.steady }
     {
-        let resistance = sheet.head.resistance;
-        let steady = sheet
-            .store
-            .powers
-            .map(|power| thermal::steady_state(power, resistance) as u32);
         Figures {
             store: sheet.store,
-            steady,
+            steady: steady_states(sheet.store, sheet.head.resistance),
         }
     }
 

@@ -1,16 +1,12 @@
--- The steady-state temperatures are the definition's, call by call (`Store`).
+-- The figures of a sheet that was read are its own (`Store`): none of its steady-state temperatures is too high.
 use mathlib.Core.Path.{refl}
-use native.Mathlib.Omega.{arith}
-use Rattle.std.proofs.Common.{rules, of_calls}
-use Rattle.step.proofs.Store.{powers_served, steadies_mapped, figures_stored}
+use Rattle.store.specs.Figures.{sheet_of}
+use Rattle.step.proofs.Store.{figures_stored}
 use Rattle.step.proofs.Figures.of.Goals as goal
 
-pub map-steady-requires : goal.map-steady-requires
-map-steady-requires c =
-    (omega arith, (omega arith, (omega arith, powers_served c.args.sheet.head c.args.sheet.store.now c.args.sheet.ranges (λ x q r. search of_calls) (λ x z. search (rules, z)))))
-
-pub returns-clause-steady : goal.returns-clause-steady
-returns-clause-steady c = steadies_mapped _ _ c.args.sheet.store.now c.args.sheet.head.resistance _ (λ x y q r. search of_calls) c.map-steady.ensures.items
+pub steady_states-requires : goal.steady_states-requires
+unfolding sheet_of
+steady_states-requires c = λ j h. c.args.sheet.ranges.steady j
 
 pub returns-clause-stored : goal.returns-clause-stored
-returns-clause-stored c = figures_stored (returns-clause-steady c) c.args.sheet.head refl
+returns-clause-stored c = figures_stored c.steady_states.ensures c.args.sheet.head refl
