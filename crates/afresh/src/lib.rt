@@ -51,10 +51,12 @@ pub fn plan_afresh(
     ensures afresh_demands { AfreshDemands s.now (read_of reading) (length table.old) (length part.old) part.new (reply_by result) }
 {
     let mut store = Store::clear();
-    let head = sheet::read(s, &mut store)?;
-    let sheet = ReadSheet {
-        head,
-        store: &store,
+    let read = match sheet::read(s, &mut store) {
+        Ok(head) => Ok(ReadSheet {
+            head,
+            store: &store,
+        }),
+        Err(refusal) => Err(refusal),
     };
-    planner::plan_left(sheet, reading.into(), table, part)
+    planner::plan_left(read, reading.into(), table, part)
 }

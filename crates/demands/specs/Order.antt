@@ -2,13 +2,15 @@
 -- first. .. Then 6, 7, 8, 9, 10", and of a frame planned afresh after a job (document 02, W1), "New, after 9: 13 .. 14 .. then that 5,
 -- then 10".
 -- Assumes nothing.
-use Rattle.std.specs.Prelude.{List, ℕ, Option}
+use Rattle.std.specs.Prelude.{List, ℕ, Option, Result, Ok, Err}
 use Rattle.frame.specs.Sheet.{Sheet}
 use Rattle.frame.specs.Run.{State, start}
 use Rattle.frame.specs.Plan.{frame_outcome}
 use Rattle.frame.specs.Afresh.{jobs_left}
 use Rattle.frame.specs.Table.{need}
 use Rattle.store.specs.Figures.{sheet_of}
+use Rattle.store.specs.Sheet.{sheet_read}
+use Rattle.store.specs.declared.sheet.ReadSheet.{ReadSheet}
 use Rattle.refusal.specs.declared.Refusal.{Refusal}
 use Rattle.refusal.specs.Code.{accepted}
 use Rattle.sheet.specs.Reading.{SheetRead, reading_of}
@@ -35,6 +37,11 @@ afresh_for s a words bytes = unless (lack_of (need s) (jobs_left s a) words byte
 -- The answer to a sheet that was read: the refusal, or what is answered for its figures.
 unfoldable pub answer_by : SheetRead → (Sheet → Answer) → Answer
 answer_by r answer = unless r.refusal (answer (sheet_of r.head r.store))
+
+-- The same of what is handed on where a sheet was read: the refusal, or what is answered for the sheet.
+abbrev pub answer_read : Result ReadSheet Refusal → (Sheet → Answer) → Answer
+answer_read (Ok p) answer = answer (sheet_read p)
+answer_read (Err f) answer = refused f
 
 -- The answer to a sheet, with a table of so many words and a part of so many bytes.
 unfoldable pub answer_of : List ℕ → ℕ → ℕ → Answer

@@ -1,46 +1,46 @@
 #![tactic(auto)]
 
 ghost use Rattle.std.specs.Prelude.{◌≡◌, length};
-ghost use Rattle.store.specs.Sheet.{sheet_read};
 ghost use Rattle.run.specs.Run.{state_of};
 ghost use Rattle.reply.specs.Reply.{reply_by};
 ghost use Rattle.reply.specs.Answer.{Answers};
-ghost use Rattle.demands.specs.Order.{answer_for, answer_of, afresh_for};
+ghost use Rattle.demands.specs.Order.{answer_for, afresh_for, answer_read, answer_of};
 ghost use Rattle.demands.specs.Demands.{Demands};
 
 use refusal::Refusal;
 use reply::Totals;
 use run::Run;
-use step::Figures;
 use store::{ReadSheet, Store};
-use table::Problem;
 
-// Plans the jobs left from `start` on, of a sheet that was read: levels to `part`, least times to `table`.
+// Plans the jobs left from `start` on, of a sheet that was read, or hands on its refusal: levels to `part`, least times to `table`.
 pub fn plan_left(
-    sheet: ReadSheet,
+    read: Result<ReadSheet, Refusal>,
     start: Run,
     table: &mut [u32],
     part: &mut [u8],
 ) -> Result<Totals, Refusal>
     requires { start.peak ≡ 0 }
-    ensures { Answers (afresh_for (sheet_read sheet.entry) (state_of start) (length table.old) (length part.old)) table.old table.new part.old part.new (reply_by result) }
+    ensures { Answers (answer_read read.entry (λ s. afresh_for s (state_of start) (length table.old) (length part.old))) table.old table.new part.old part.new (reply_by result) }
 {
+    let sheet = read?;
     let frame = need::frame_of(sheet.head);
     let need = need::need_of(frame);
     let left = sheet.head.jobs.saturating_sub(start.done) as usize;
     checks::check_memory(need, left, table.len(), part.len())?;
     checks::check_reading(sheet.head, start)?;
-    let figures = Figures::of(sheet);
-    let problem = Problem { frame, figures };
-    solve::solve(&problem, start, table, part)
+    solve::solve(frame, sheet.store, start, table, part)
 }
 
-// Plans a sheet that was read, from its start.
-pub fn plan_read(sheet: ReadSheet, table: &mut [u32], part: &mut [u8]) -> Result<Totals, Refusal>
-    ensures { Answers (answer_for (sheet_read sheet.entry) (length table.old) (length part.old)) table.old table.new part.old part.new (reply_by result) }
+// The same of a sheet's own frame, from its start.
+pub fn plan_read(
+    read: Result<ReadSheet, Refusal>,
+    table: &mut [u32],
+    part: &mut [u8],
+) -> Result<Totals, Refusal>
+    ensures { Answers (answer_read read.entry (λ s. answer_for s (length table.old) (length part.old))) table.old table.new part.old part.new (reply_by result) }
 {
-    let start = step::start_of(sheet.head);
-    plan_left(sheet, start, table, part)
+    let start = step::start_of(read?.head);
+    plan_left(read, start, table, part)
 }
 
 // Plans a sheet: levels to `part`, least times to `table`.
@@ -49,10 +49,12 @@ pub fn plan(s: &[u8], table: &mut [u32], part: &mut [u8]) -> Result<Totals, Refu
     ensures demands { Demands s.now (length table.old) (length part.old) part.new (reply_by result) }
 {
     let mut store = Store::clear();
-    let head = sheet::read(s, &mut store)?;
-    let sheet = ReadSheet {
-        head,
-        store: &store,
+    let read = match sheet::read(s, &mut store) {
+        Ok(head) => Ok(ReadSheet {
+            head,
+            store: &store,
+        }),
+        Err(refusal) => Err(refusal),
     };
-    plan_read(sheet, table, part)
+    plan_read(read, table, part)
 }

@@ -22,7 +22,7 @@ pub fn write_plan(s: &[u8], text: &mut [u8]) -> Result<usize, Refusal>
         head,
         store: &store,
     };
-    let plan = planner::plan_read(sheet, &mut table, &mut levels);
+    let plan = planner::plan_read(Ok(sheet), &mut table, &mut levels);
     if text.len() < TEXT_LEAST {
         return Err(match plan {
             Err(f) if f.number() < Refusal::PartShort.number() => f,

@@ -2,8 +2,10 @@
 
 ghost use Rattle.std.specs.Prelude.{◌-◌, length};
 ghost use Rattle.std.specs.Result.{result_err};
+ghost use Rattle.store.specs.Figures.{sheet_of};
 ghost use Rattle.run.specs.Run.{state_of};
 ghost use Rattle.table.specs.Problem.{sheet_for};
+ghost use Rattle.table.specs.Table.{Axes};
 ghost use Rattle.reply.specs.Answer.{found_from, Answers};
 ghost use Rattle.reply.specs.Reply.{reply_by};
 ghost use Rattle.solve.specs.Solve.{Ready, Finds};
@@ -11,7 +13,9 @@ ghost use Rattle.solve.specs.Solve.{Ready, Finds};
 use refusal::Refusal;
 use reply::Totals;
 use run::Run;
-use table::Problem;
+use step::Figures;
+use store::Store;
+use table::{Frame, Problem};
 
 // Fills the table and writes the levels of a plan for the jobs left from `start` on, unless there is none.
 fn find_plan(
@@ -39,16 +43,20 @@ fn find_plan(
 // Plans the jobs left from `start` on, where what is lent is enough: levels to `part`, least times to `table`. Those are two from call to
 // call, as C lends them: of what held them by `&mut` each contract would have to say besides that it still holds the same ones.
 pub fn solve(
-    problem: &Problem,
+    frame: Frame,
+    store: &Store,
     start: Run,
     table: &mut [u32],
     part: &mut [u8],
 ) -> Result<Totals, Refusal>
-    requires { Ready (sheet_for problem.now) (state_of start) (length table.old) (length part.old) }
-    ensures { Answers (found_from (sheet_for problem.now) (state_of start)) table.old table.new part.old part.new (reply_by result) }
+    requires { let s = sheet_of frame.head store.now in record { axes : Axes s frame; ready : Ready s (state_of start) (length table.old) (length part.old) } }
+    ensures { let s = sheet_of frame.head store.now in Answers (found_from s (state_of start)) table.old table.new part.old part.new (reply_by result) }
 {
-    find_plan(problem, start, table, part)?;
-    let left = problem.frame.head.jobs - start.done;
+    let steady = step::steady_states(store, frame.head.resistance);
+    let figures = Figures { store, steady };
+    let problem = Problem { frame, figures };
+    find_plan(&problem, start, table, part)?;
+    let left = frame.head.jobs - start.done;
     let levels = &part[..left as usize];
     Ok(problem.figures.run_levels(start, levels).into())
 }

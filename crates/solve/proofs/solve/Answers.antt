@@ -6,12 +6,22 @@ use lib.Seq.{get_or-take, length-take-le}
 use Rattle.std.specs.Prelude.{Ok}
 use Rattle.std.proofs.lemmas.Result.{err_from_is_err_and}
 use Rattle.store.specs.Figures.{sheet_of}
+use Rattle.step.proofs.Store.{figures_stored}
 use Rattle.refusal.proofs.Apart.{failed, passed}
-use Rattle.table.specs.Problem.{sheet_for}
 use Rattle.reply.specs.Reply.{reply_by}
 use Rattle.reply.specs.declared.Totals.{Totals}
 use Rattle.solve.proofs.Finding.{plan_levels, answers_plan, answers_none}
 use Rattle.solve.proofs.solve.Goals as goal
+
+pub steady_states-steady-requires : goal.steady_states-steady-requires
+unfolding sheet_of
+steady_states-steady-requires c = λ j h. let a = c in a.requires.axes.ranges.steady j
+
+pub invariant_of-problem : goal.invariant_of-problem
+invariant_of-problem c = record { framed = record { axes = c.requires.axes; stored = figures_stored c.steady_states-steady.ensures c.args.frame.head refl } }
+
+pub find_plan-requires : goal.find_plan-requires
+find_plan-requires c = c.requires.ready
 
 pub returns-in_err-find_plan : goal.returns-in_err-find_plan
 unfolding sheet_of
@@ -22,19 +32,18 @@ returns-in_err-find_plan c =
 pub run_levels-requires : goal.run_levels-requires
 unfolding sheet_of
 run_levels-requires c =
-    let p = c.args.problem.now in
-    let ok = p.framed.axes.ranges in
-    let w = c.requires in
-    let n = p.frame.head.jobs - c.args.start.done in
+    let ok = c.requires.axes.ranges in
+    let w = c.requires.ready in
+    let n = c.args.frame.head.jobs - c.args.start.done in
     let part = c.find_plan.new.part in
     let long = length-take-le n part (omega (arith, w.part, c.find_plan.auto.part)) in
     let levels = plan_levels _ _ _ _ _ _ _ _ c.find_plan.ensures ok (omega (arith, w.readable.done)) w.peak (passed refl c.in_ok-find_plan.was) in
     record {
       begun =
           record {
-            sheet = sheet_for p;
+            sheet = sheet_of c.args.frame.head c.args.store.now;
             ranges = ok;
-            stored = p.framed.stored;
+            stored = figures_stored c.steady_states-steady.ensures c.args.frame.head refl;
             done = omega (arith, w.readable.done, ok.jobs.high, long);
             level = omega (arith, w.readable.range.level, ok.levels.high);
             time = w.readable.range.time;
@@ -47,6 +56,7 @@ run_levels-requires c =
 pub returns : goal.returns
 unfolding sheet_of
 returns c =
-    let p = c.args.problem.now in
-    let w = c.requires in
-    answers_plan _ _ _ _ _ _ _ _ c.find_plan.ensures p.framed.axes.ranges (omega (arith, w.readable.done)) w.peak (passed refl c.in_ok-find_plan.was) _ _ (c.run_levels.ensures (sheet_for p) p.framed.axes.ranges p.framed.stored) (ap (λ (t : Totals). reply_by (Ok t)) c.into.ensures)
+    let ok = c.requires.axes.ranges in
+    let w = c.requires.ready in
+    let stored = figures_stored c.steady_states-steady.ensures c.args.frame.head refl in
+    answers_plan _ _ _ _ _ _ _ _ c.find_plan.ensures ok (omega (arith, w.readable.done)) w.peak (passed refl c.in_ok-find_plan.was) _ _ (c.run_levels.ensures (sheet_of c.args.frame.head c.args.store.now) ok stored) (ap (λ (t : Totals). reply_by (Ok t)) c.into.ensures)
