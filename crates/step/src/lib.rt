@@ -15,7 +15,8 @@ ghost use Rattle.step.specs.Store.{steadies, job_in, Stored, Rests, Begun};
 use run::{Job, Run};
 use store::{Change, Head, LEVELS_MAX, ReadSheet, Store};
 
-// Works out the steady-state temperatures once, for all jobs.
+// Works out the steady-state temperatures once, for all jobs. Not copied into each caller: the archive's code has a bound.
+#[inline(never)]
 pub fn steady_states(store: &Store, resistance: u32) -> [u32; LEVELS_MAX]
     requires { (j : ℕ) → j < levels_max → steady_state (power_at store.now j) resistance ≤ temperature_max }
     ensures { result ≡ steadies store.now resistance }
