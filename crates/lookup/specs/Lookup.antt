@@ -28,7 +28,8 @@ place_by f b =
 unfoldable pub rest_in : HeadAxes → List ℕ → Run → ℕ
 rest_in f table b = cond (ltb b.done f.head.jobs) (get_or table (place_by f b) 0) 0
 
--- What finding a run's cell may rest on: the run can be raised by these steps, there are cells, and the place is one of a table that is allowed.
+-- What finding a run's cell may rest on: the run can be raised by these steps, there are cells, and the place is one of a table that
+-- is allowed.
 pub record Steps (f : HeadAxes) (b : Run) : Type 0 where
   pub raises : Raises b
   pub energy_step : Between 1 limit_max f.head.energy_step

@@ -11,8 +11,8 @@ fn place_of(axes: HeadAxes, b: Run) -> usize
     requires { Steps axes b }
     ensures { result ≡ place_by axes b }
 {
-    let a = (b.energy as u32).div_ceil(axes.head.energy_step) as usize;
-    let t = (b.temperature as u32).div_ceil(axes.head.temperature_step) as usize;
+    let a = axes.energy_cell(b.energy as u32) as usize;
+    let t = axes.temperature_cell(b.temperature as u32) as usize;
     let row = b.done as usize * axes.head.levels as usize + b.level as usize;
     (row * axes.energy_cells + a) * axes.temperature_cells + t
 }

@@ -1,4 +1,4 @@
-ghost use Rattle.std.specs.Prelude.{◌≡◌, ◌+◌};
+ghost use Rattle.std.specs.Prelude.{◌≡◌, ◌+◌, ◌≤◌};
 ghost use Rattle.thermal.specs.Rounding.{ceil_div};
 ghost use Rattle.table.specs.Bounds.{Bounded};
 
@@ -23,6 +23,24 @@ pub struct HeadAxes {
     pub temperature_cells: usize,
 }
 
+impl HeadAxes {
+    // The energy cell to which an energy is raised.
+    pub fn energy_cell(self, energy: u32) -> u32
+        requires { 1 ≤ self.head.energy_step }
+        ensures { result ≡ ceil_div energy self.head.energy_step }
+    {
+        energy.div_ceil(self.head.energy_step)
+    }
+
+    // The temperature cell to which a temperature is raised.
+    pub fn temperature_cell(self, temperature: u32) -> u32
+        requires { 1 ≤ self.head.temperature_step }
+        ensures { result ≡ ceil_div temperature self.head.temperature_step }
+    {
+        temperature.div_ceil(self.head.temperature_step)
+    }
+}
+
 impl Frame {
     ghost use Rattle.table.specs.Table.{head_axes};
 
@@ -37,17 +55,17 @@ impl Frame {
         }
     }
 
-    // The energy cell to which an energy is raised.
+    // The energy cell to which an energy is raised: a frame's step is at least 1.
     pub fn energy_cell(self, energy: u32) -> u32
         ensures { result ≡ ceil_div energy self.head.energy_step }
     {
-        energy.div_ceil(self.head.energy_step)
+        self.axes().energy_cell(energy)
     }
 
-    // The temperature cell to which a temperature is raised.
+    // The temperature cell to which a temperature is raised, likewise.
     pub fn temperature_cell(self, temperature: u32) -> u32
         ensures { result ≡ ceil_div temperature self.head.temperature_step }
     {
-        temperature.div_ceil(self.head.temperature_step)
+        self.axes().temperature_cell(temperature)
     }
 }

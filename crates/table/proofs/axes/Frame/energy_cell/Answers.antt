@@ -1,7 +1,8 @@
--- The cell is the library's quotient by the step, which is not 0.
-use mathlib.Core.Path.{◌∙◌}
-use Rattle.table.proofs.Rounded.{rounded_up}
+-- The step is not 0, by the invariant of the frame.
 use Rattle.table.proofs.axes.Frame.energy_cell.Goals as goal
 
+pub energy_cell-requires : goal.energy_cell-requires
+energy_cell-requires c = rw c.axes.ensures c.args.self.bounded.energy_step.low
+
 pub returns : goal.returns
-returns c = c.div_ceil.ensures ∙ rounded_up c.args.energy c.args.self.head.energy_step c.args.self.bounded.energy_step.low
+returns c = rw c.axes.ensures at c.energy_cell.ensures
