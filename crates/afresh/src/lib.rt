@@ -51,6 +51,7 @@ pub fn plan_afresh(
     ensures afresh_demands { AfreshDemands s.now (read_of reading) (length table.old) (length part.old) part.new (reply_by result) }
 {
     let mut store = Store::clear();
+    // A `match`, as in `plan` of `planner`, which says why.
     let read = match sheet::read(s, &mut store) {
         Ok(head) => Ok(ReadSheet {
             head,

@@ -22,7 +22,7 @@ use Rattle.checks.proofs.Checks.{fault_none}
 use Rattle.reply.specs.Reply.{Reply, reply_by}
 use Rattle.reply.specs.Answer.{Answer, refused, found, found_from, Answers}
 use Rattle.std.specs.Prelude.{Option, Some, None, Result, Ok, Err}
-use Rattle.demands.specs.Order.{unless, answer_for, afresh_for, answer_by, answer_read, answer_of, afresh_of}
+use Rattle.demands.specs.Order.{unless, answer_for, afresh_for, answer_by, answer_handed, answer_of, afresh_of}
 
 -- ---- a test
 
@@ -81,11 +81,11 @@ answers_start words words' bytes bytes' r a q ok e h = unless_start r.refusal wo
 -- ---- what is handed on
 
 module _ {r : Result ReadSheet Refusal} (answer : Sheet → Answer) {words bytes : List ℕ} where
-  pub handed_away : (f : Refusal) → r ≡ Err f → Answers (answer_read r answer) words words bytes bytes (reply_by (Err f))
+  pub handed_away : (f : Refusal) → r ≡ Err f → Answers (answer_handed r answer) words words bytes bytes (reply_by (Err f))
   handed_away f m = turned _ f (rw m refl) refl
 
   pub handed_on : {words' bytes' : List ℕ} {q : Reply} (p : ReadSheet) → r ≡ Ok p → Answers (answer (sheet_read p)) words words' bytes bytes' q →
-      Answers (answer_read r answer) words words' bytes bytes' q
+      Answers (answer_handed r answer) words words' bytes bytes' q
   handed_on p m h = rw m h
 
 -- ---- what the reader hands back

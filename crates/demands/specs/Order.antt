@@ -39,9 +39,9 @@ unfoldable pub answer_by : SheetRead → (Sheet → Answer) → Answer
 answer_by r answer = unless r.refusal (answer (sheet_of r.head r.store))
 
 -- The same of what is handed on where a sheet was read: the refusal, or what is answered for the sheet.
-abbrev pub answer_read : Result ReadSheet Refusal → (Sheet → Answer) → Answer
-answer_read (Ok p) answer = answer (sheet_read p)
-answer_read (Err f) answer = refused f
+abbrev pub answer_handed : Result ReadSheet Refusal → (Sheet → Answer) → Answer
+answer_handed (Ok p) answer = answer (sheet_read p)
+answer_handed (Err f) answer = refused f
 
 -- The answer to a sheet, with a table of so many words and a part of so many bytes.
 unfoldable pub answer_of : List ℕ → ℕ → ℕ → Answer

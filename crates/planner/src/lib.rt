@@ -4,7 +4,7 @@ ghost use Rattle.std.specs.Prelude.{◌≡◌, length};
 ghost use Rattle.run.specs.Run.{state_of};
 ghost use Rattle.reply.specs.Reply.{reply_by};
 ghost use Rattle.reply.specs.Answer.{Answers};
-ghost use Rattle.demands.specs.Order.{answer_for, afresh_for, answer_read, answer_of};
+ghost use Rattle.demands.specs.Order.{answer_for, afresh_for, answer_handed, answer_of};
 ghost use Rattle.demands.specs.Demands.{Demands};
 
 use refusal::Refusal;
@@ -20,7 +20,7 @@ pub fn plan_left(
     part: &mut [u8],
 ) -> Result<Totals, Refusal>
     requires { start.peak ≡ 0 }
-    ensures { Answers (answer_read read.entry (λ s. afresh_for s (state_of start) (length table.old) (length part.old))) table.old table.new part.old part.new (reply_by result) }
+    ensures { Answers (answer_handed read.entry (λ s. afresh_for s (state_of start) (length table.old) (length part.old))) table.old table.new part.old part.new (reply_by result) }
 {
     let sheet = read?;
     let frame = need::frame_of(sheet.head);
@@ -37,7 +37,7 @@ pub fn plan_read(
     table: &mut [u32],
     part: &mut [u8],
 ) -> Result<Totals, Refusal>
-    ensures { Answers (answer_read read.entry (λ s. answer_for s (length table.old) (length part.old))) table.old table.new part.old part.new (reply_by result) }
+    ensures { Answers (answer_handed read.entry (λ s. answer_for s (length table.old) (length part.old))) table.old table.new part.old part.new (reply_by result) }
 {
     let start = step::start_of(read?.head);
     plan_left(read, start, table, part)
@@ -49,6 +49,7 @@ pub fn plan(s: &[u8], table: &mut [u32], part: &mut [u8]) -> Result<Totals, Refu
     ensures demands { Demands s.now (length table.old) (length part.old) part.new (reply_by result) }
 {
     let mut store = Store::clear();
+    // A `match`: a closure to `map` by would need a contract of its own, that head and store are what was read.
     let read = match sheet::read(s, &mut store) {
         Ok(head) => Ok(ReadSheet {
             head,
