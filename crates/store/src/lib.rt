@@ -64,7 +64,7 @@ pub struct Work {
 
 // The figures of the L, S and B lines: those of a change by the level left and then the level entered, those of a job by the job and
 // then the level.
-#[derive(Drop)]
+#[derive(Clone, Copy)]
 pub struct Store {
     pub powers: [u32; LEVELS_MAX],
     pub changes: [[Change; LEVELS_MAX]; LEVELS_MAX],
