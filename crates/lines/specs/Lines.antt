@@ -21,7 +21,7 @@ pub record Found : Type 0 where
 abbrev pub stop : Store → LineFault → Found
 stop st f = record { read = Err f; store = st }
 
--- The next n lines of a kind, from its line j on; the figures go to place from b + j on.
+-- The next n lines of a kind, from its line j on; their figures go to the places from b + j on.
 unfoldable pub block_from : Kind → ℕ → ℕ → ℕ → Rest → Store → Found
 block_from kind b zero j r st = record { read = Ok r; store = st }
 block_from kind b (suc n) j r st =
@@ -42,7 +42,7 @@ abbrev pub rest_behind : ℕ → Rest → Rest
 rest_behind n r = record { line = r.line + 1; text = drop n r.text }
 
 -- Of the next n lines of a kind, from its line j on, those before the first that is not taken; the lines before line j count as taken,
--- and the figures go to place from b + j on.
+-- and their figures go to the places from b + j on.
 unfoldable pub taken_from : Kind → ℕ → ℕ → ℕ → Rest → Store → Taken
 taken_from kind b zero j r st = record { count = j; rest = r; store = st }
 taken_from kind b (suc n) j r st =
