@@ -16,7 +16,7 @@ use Rattle.name_lines.specs.Name.{name_fault}
 use Rattle.name_lines.proofs.Name.{name_field}
 use Rattle.line_kinds.specs.declared.Kind.TheVariants.{Level, Change, Work}
 use Rattle.lines.specs.Lines.{Found, stop, block_from}
-use Rattle.lines.proofs.Places.{Placed, placed_end, placed_stop, block_placed}
+use Rattle.lines.proofs.Places.{Placed, placed_end, placed_stop, block_from_placed}
 use Rattle.body.specs.Body.{job_lines, head_lines, lines_before, end_line, onward, changes_from, name_from, jobs_from, body_from}
 
 -- ---- going on or stopping
@@ -113,7 +113,7 @@ module _ (l : ℕ) (few : l ≤ levels_max) (most : ℕ) where
   unfolding changes_from
   changes_placed zero p r st h = placed_end most st r (omega arith)
   changes_placed (suc n) p r st h =
-      onward_placed (r.line + l) most _ _ (omega arith) (block_placed (Change p) (p * levels_max) l 0 r st)
+      onward_placed (r.line + l) most _ _ (omega arith) (block_from_placed (Change p) (p * levels_max) l 0 r st)
       (λ s store q. changes_placed n (p + 1) s store (omega arith))
 
   -- The lines of the next n jobs.
@@ -125,7 +125,7 @@ module _ (l : ℕ) (few : l ≤ levels_max) (most : ℕ) where
       (λ f e. let z = line_fault name_fault r f (name_field (until 10 r.text)) e in placed_stop most st f (omega (arith, z.line)) z.field)
       (λ name e.
       let z = ap (λ (s : Rest). s.line) (line_read name_fault r name e).rest in
-      onward_placed (name.1.line + l) most _ _ (omega (arith, z)) (block_placed Work (i * levels_max) l 0 name.1 st)
+      onward_placed (name.1.line + l) most _ _ (omega (arith, z)) (block_from_placed Work (i * levels_max) l 0 name.1 st)
       (λ s store q. jobs_placed n (i + 1) s store (omega (arith, z))))
 
 -- All of them, and bytes after them on the next line.
@@ -134,6 +134,6 @@ pub body_placed : (m l resistance : ℕ) (r : Rest) (st : Store) → m ≤ jobs_
 unfolding body_from
 body_placed m l resistance r st jobs few h =
     onward_placed (lines_before levels_max 0 + 1) end_line _ _ (omega arith)
-    (onward_placed (r.line + l) (lines_before levels_max 0 + 1) _ _ (omega arith) (block_placed (Level resistance) 0 l 0 r st)
+    (onward_placed (r.line + l) (lines_before levels_max 0 + 1) _ _ (omega arith) (block_from_placed (Level resistance) 0 l 0 r st)
     (λ s store q. changes_placed l few _ l 0 s store (omega arith)))
     (λ s store q. jobs_placed l few end_line m 0 s store (omega arith))

@@ -27,10 +27,11 @@ use Rattle.line_kinds.specs.declared.Kind.{Kind}
 use Rattle.line_kinds.specs.declared.Kind.TheVariants.{Level as LevelKind, Change as ChangeKind, Work as WorkKind}
 use Rattle.line_kinds.specs.declared.Entry.{Entry}
 use Rattle.line_kinds.specs.declared.Entry.TheVariants.{Level as LevelEntry, Change as ChangeEntry, Work as WorkEntry}
-use Rattle.line_kinds.specs.Figures.{level_ranges, cost_range, change_ranges, work_ranges, steady_fields, level_fields, change_fields, work_fields, fields_for, put_in_rows, put}
+use Rattle.line_kinds.specs.Figures.{level_ranges, cost_range, change_ranges, work_ranges, steady_fields, level_fields, change_fields, work_fields, fields_for, put}
 use Rattle.reading.specs.Rest.{Rest, next_by}
 use Rattle.reading.proofs.Next.{line_read}
 use Rattle.lines.specs.Lines.{Found, block_from}
+use Rattle.lines.proofs.Rows.{row_of, first_of, put_at, block_in_row}
 
 -- ---- the figures of a sound line
 
@@ -110,6 +111,18 @@ module _ (P : Store → Type 0) (kind : Kind) (b all : ℕ)
       let s = says kind j _ line.0 (line_read (fields_for kind j) r line e).says in
       block_keeps n (j + 1) line.1 _ (omega arith) (one j line.0 st (omega arith) s h))
 
+-- The same of a block by row.
+module _ (P : Store → Type 0) (kind : Kind) (i : ℕ)
+    (one : (j : ℕ) (entry : Entry) (st : Store) → Says kind j entry → P st → P (put_at (row_of kind i) j entry st)) where
+  row_keeps : (n j : ℕ) (r : Rest) (st : Store) → P st → P (block_in_row kind i n j r st).store
+  unfolding block_in_row
+  row_keeps zero j r st h = h
+  row_keeps (suc n) j r st h =
+      after_cases (λ (f : Found). P f.store) (next_by (fields_for kind j) r) _ _ (λ f e. h)
+      (λ line e.
+      let s = says kind j _ line.0 (line_read (fields_for kind j) r line e).says in
+      row_keeps n (j + 1) line.1 _ (one j line.0 st s h))
+
 -- ---- a list with one place put
 
 -- What holds of what is put, and of what stood there, holds at each place.
@@ -127,11 +140,9 @@ at_set P xs k j x d h g = elim (ℕ_discrete j k) [
 ]
 
 -- The same for place b of row a.
-at_put : {A : Type 0} (P : A → Type 0) (rows : List (List A)) (k a b : ℕ) (x d : A) → P (get_or (get_or rows a []) b d) →
-    (a ≡ k / levels_max → b ≡ k % levels_max → P x) → P (get_or (get_or (put_in_rows k x rows) a []) b d)
-at_put P rows k a b x d h g =
-    let i = k / levels_max in
-    let j = k % levels_max in
+at_put : {A : Type 0} (P : A → Type 0) (rows : List (List A)) (i j a b : ℕ) (x d : A) → P (get_or (get_or rows a []) b d) → (a ≡ i → b ≡ j → P x) →
+    P (get_or (get_or (set rows i (set (get_or rows i []) j x)) a []) b d)
+at_put P rows i j a b x d h g =
     at_set (λ xs. P (get_or xs b d)) rows i a _ [] h (λ e. at_set P (get_or rows i []) j b x d (rw e at h) (g e))
 
 -- What is replicated is at each place, also past the end, where it counts.
@@ -183,6 +194,85 @@ none_kept resistance m l d e =
 pub kept_clear : (resistance : ℕ) → Kept resistance clear
 kept_clear resistance = none_kept resistance jobs_max levels_max refl refl
 
+-- The lines of a kind are of a sheet with this resistance.
+abbrev pub Resists : ℕ → Kind → Type 0
+Resists resistance (LevelKind r) = r ≡ resistance
+Resists resistance (ChangeKind p) = Unit {0}
+Resists resistance WorkKind = Unit {0}
+
+-- One line more, in its row.
+put_sized : (i j : ℕ) (work : Work) (st : Store) → Sized st.works → Sized (put_at i j (WorkEntry work) st).works
+unfolding put_at
+put_sized i j work st z =
+    record {
+      jobs = length-set st.works i _ ∙ z.jobs;
+      levels = λ a h.
+          at_set (λ (row : List Work). length row ≡ levels_max) st.works i a _ [] (z.levels a h)
+          (λ e. length-set (get_or st.works i []) j work ∙ z.levels i (omega arith));
+    }
+
+put_kept : (resistance : ℕ) (kind : Kind) → Resists resistance kind → (i j : ℕ) (entry : Entry) (st : Store) → Says kind j entry →
+    Kept resistance st → Kept resistance (put_at (row_of kind i) j entry st)
+unfolding put_at
+put_kept resistance (LevelKind r) h i j entry st s z =
+    rw s.1
+    (record {
+      sized = z.sized;
+      power = λ k. at_set (Powered resistance) st.powers j k s.0 0 (z.power k) (λ e. rw (← h) s.2);
+      change = z.change;
+      work = z.work;
+    })
+put_kept resistance (ChangeKind p) h i j entry st s z =
+    rw s.1
+    (record {
+      sized = z.sized;
+      power = z.power;
+      change = λ a b. at_put (Changed a b) st.changes p j a b s.0 no_change (z.change a b) (λ e d. rw (e, d) s.2);
+      work = z.work;
+    })
+put_kept resistance WorkKind h i j entry st s z =
+    rw s.1
+    (record {
+      sized = put_sized i j s.0 st z.sized;
+      power = z.power;
+      change = z.change;
+      work = λ a b. at_put Worked st.works i j a b s.0 no_work (z.work a b) (λ e d. s.2);
+    })
+
+-- A block by row, however many its lines.
+pub block_kept : (resistance : ℕ) (kind : Kind) → Resists resistance kind → (i n j : ℕ) (r : Rest) (st : Store) →
+    Kept resistance st → Kept resistance (block_in_row kind i n j r st).store
+block_kept resistance kind h i = row_keeps (Kept resistance) kind i (put_kept resistance kind h i)
+
+-- A row has `levels_max` places: place j of it is place j from its first on.
+put_by_row : (kind : Kind) (i j : ℕ) (entry : Entry) (st : Store) → j < levels_max → Says kind j entry →
+    put (first_of kind i + j) entry st ≡ put_at (row_of kind i) j entry st
+unfolding put put_at
+put_by_row (LevelKind resistance) i j entry st l s =
+    let first : 0 + j ≡ j = omega arith in
+    rw (s.1, first) refl
+put_by_row (ChangeKind p) i j entry st l s = rw (s.1, digit_div p j levels_max l, digit_mod p j levels_max l) refl
+put_by_row WorkKind i j entry st l s = rw (s.1, digit_div i j levels_max l, digit_mod i j levels_max l) refl
+
+-- So a block that goes to the places from a row's first on is one by row, as far as the row goes.
+pub block_from_row : (kind : Kind) (i n j : ℕ) (r : Rest) (st : Store) → j + n ≤ levels_max →
+    block_from kind (first_of kind i) n j r st ≡ block_in_row kind i n j r st
+unfolding block_from block_in_row
+block_from_row kind i zero j r st l = refl
+block_from_row kind i (suc n) j r st l =
+    after_cases (λ (f : Found). f ≡ block_in_row kind i (suc n) j r st) (next_by (fields_for kind j) r) _ _
+    (λ f e. rw e refl)
+    (λ line e.
+    let s = says kind j _ line.0 (line_read (fields_for kind j) r line e).says in
+    rw (e, put_by_row kind i j line.0 st (omega arith) s) (block_from_row kind i n (j + 1) line.1 _ (omega arith)))
+
+-- Place k of all that are of an entry's kind is place l of some row i.
+put_place : (k : ℕ) (entry : Entry) (st : Store) → (i : ℕ) × (l : ℕ) × (put k entry st ≡ put_at i l entry st)
+unfolding put put_at
+put_place k (LevelEntry power) st = (0, k, refl)
+put_place k (ChangeEntry change) st = (k / levels_max, k % levels_max, refl)
+put_place k (WorkEntry work) st = (k / levels_max, k % levels_max, refl)
+
 -- The first n lines of a kind are of a sheet with this resistance, and go to their places from place b on: S lines to those of the level
 -- that they leave.
 abbrev pub Belong : ℕ → ℕ → ℕ → Kind → Type 0
@@ -190,54 +280,18 @@ Belong resistance b n (LevelKind r) = r ≡ resistance
 Belong resistance b n (ChangeKind p) = (b ≡ p * levels_max) × (n ≤ levels_max)
 Belong resistance b n WorkKind = Unit {0}
 
--- One line more.
-put_sized : (k : ℕ) (work : Work) (st : Store) → Sized st.works → Sized (put k (WorkEntry work) st).works
-unfolding put
-put_sized k work st z =
-    let i = k / levels_max in
-    record {
-      jobs = length-set st.works i _ ∙ z.jobs;
-      levels = λ a h.
-          at_set (λ (row : List Work). length row ≡ levels_max) st.works i a _ [] (z.levels a h)
-          (λ e. length-set (get_or st.works i []) (k % levels_max) work ∙ z.levels i (omega arith));
-    }
-
-put_kept : (resistance : ℕ) (kind : Kind) (b n : ℕ) → Belong resistance b n kind → (j : ℕ) (entry : Entry) (st : Store) → j < n →
-    Says kind j entry → Kept resistance st → Kept resistance (put (b + j) entry st)
-unfolding put
-put_kept resistance (LevelKind r) b n h j entry st l s z =
-    rw s.1
-    (record {
-      sized = z.sized;
-      power = λ k. at_set (Powered resistance) st.powers (b + j) k s.0 0 (z.power k) (λ e. rw (← h) s.2);
-      change = z.change;
-      work = z.work;
-    })
-put_kept resistance (ChangeKind p) b n h j entry st l s z =
-    let few : j < levels_max = omega (arith, h.1) in
-    let row : (b + j) / levels_max ≡ p = rw h.0 (digit_div p j levels_max few) in
-    let column : (b + j) % levels_max ≡ j = rw h.0 (digit_mod p j levels_max few) in
-    rw s.1
-    (record {
-      sized = z.sized;
-      power = z.power;
-      change = λ a c. at_put (Changed a c) st.changes (b + j) a c s.0 no_change (z.change a c) (λ e d. rw (e ∙ row, d ∙ column) s.2);
-      work = z.work;
-    })
-put_kept resistance WorkKind b n h j entry st l s z =
-    rw s.1
-    (record {
-      sized = put_sized (b + j) s.0 st z.sized;
-      power = z.power;
-      change = z.change;
-      work = λ a c. at_put Worked st.works (b + j) a c s.0 no_work (z.work a c) (λ e d. s.2);
-    })
-
--- A block of lines.
-pub block_kept : (resistance : ℕ) (kind : Kind) (b n j : ℕ) → Belong resistance b (j + n) kind → (r : Rest) (st : Store) →
+-- A block that goes to the places from b on.
+pub block_from_kept : (resistance : ℕ) (kind : Kind) (b n j : ℕ) → Belong resistance b (j + n) kind → (r : Rest) (st : Store) →
     Kept resistance st → Kept resistance (block_from kind b n j r st).store
-block_kept resistance kind b n j h r st =
-    block_keeps (Kept resistance) kind b (j + n) (put_kept resistance kind b (j + n) h) n j r st (omega arith)
+unfolding put put_at
+block_from_kept resistance (LevelKind own) b n j h r st z =
+    block_keeps (Kept resistance) (LevelKind own) b (j + n)
+    (λ k entry old l s. rw s.1 (put_kept resistance (LevelKind own) h 0 (b + k) (LevelEntry s.0) old (s.0, refl, s.2))) n j r st (omega arith) z
+block_from_kept resistance (ChangeKind p) b n j h r st z =
+    rw (h.0, block_from_row (ChangeKind p) 0 n j r st h.1) (block_kept resistance (ChangeKind p) tt 0 n j r st z)
+block_from_kept resistance WorkKind b n j h r st z =
+    block_keeps (Kept resistance) WorkKind b (j + n)
+    (λ k entry old l s. let w = put_place (b + k) entry old in rw w.2 (put_kept resistance WorkKind tt w.0 w.1 entry old s)) n j r st (omega arith) z
 
 -- ---- the lower end of a job's time
 
@@ -245,43 +299,52 @@ block_kept resistance kind b n j h r st =
 abbrev pub Timed : Store → ℕ → ℕ → Type 0
 Timed st i j = 1 ≤ (work_at st i j).time
 
--- A block of lines leaves no time at 0 that was not 0 before.
-put_stays : (kind : Kind) (a c k j : ℕ) (entry : Entry) (st : Store) → Says kind j entry → Timed st a c → Timed (put k entry st) a c
-unfolding put
-put_stays (LevelKind r) a c k j entry st s h = rw s.1 h
-put_stays (ChangeKind p) a c k j entry st s h = rw s.1 h
-put_stays WorkKind a c k j entry st s h = rw s.1 (at_put (λ (w : Work). 1 ≤ w.time) st.works k a c s.0 no_work h (λ e d. s.3))
+-- No line leaves a time at 0 that was not 0 before, wherever it is put.
+put_stays : (kind : Kind) (i k a b j : ℕ) (entry : Entry) (st : Store) → Says kind j entry → Timed st a b → Timed (put_at i k entry st) a b
+unfolding put_at
+put_stays (LevelKind r) i k a b j entry st s h = rw s.1 h
+put_stays (ChangeKind p) i k a b j entry st s h = rw s.1 h
+put_stays WorkKind i k a b j entry st s h = rw s.1 (at_put (λ (w : Work). 1 ≤ w.time) st.works i k a b s.0 no_work h (λ e d. s.3))
 
-pub block_stays : (kind : Kind) (b n j : ℕ) (r : Rest) (st : Store) (a c : ℕ) → Timed st a c → Timed (block_from kind b n j r st).store a c
-block_stays kind b n j r st a c =
-    block_keeps (λ s. Timed s a c) kind b (j + n) (λ i entry s l. put_stays kind a c (b + i) i entry s) n j r st (omega arith)
+-- So does no block, by row or from a place on.
+pub block_stays : (kind : Kind) (i n j : ℕ) (r : Rest) (st : Store) (a b : ℕ) → Timed st a b → Timed (block_in_row kind i n j r st).store a b
+block_stays kind i n j r st a b = row_keeps (λ s. Timed s a b) kind i (λ k. put_stays kind (row_of kind i) k a b k) n j r st
+
+pub block_from_stays : (kind : Kind) (b n j : ℕ) (r : Rest) (st : Store) (a c : ℕ) → Timed st a c → Timed (block_from kind b n j r st).store a c
+block_from_stays kind b n j r st a c =
+    block_keeps (λ s. Timed s a c) kind b (j + n)
+    (λ k entry old l s h. let w = put_place (b + k) entry old in rw w.2 (put_stays kind w.0 w.1 a c k entry old s h)) n j r st (omega arith)
 
 -- A time that was put is there.
 put_timed : (i j : ℕ) (work : Work) (st : Store) → i < jobs_max → j < levels_max → Sized st.works → 1 ≤ work.time →
-    Timed (put (i * levels_max + j) (WorkEntry work) st) i j
-unfolding put
+    Timed (put_at i j (WorkEntry work) st) i j
+unfolding put_at
 put_timed i j work st h l z w =
     let row = get_or st.works i [] in
     let x : i < length st.works = omega (arith, z.jobs) in
     let y : j < length row = omega (arith, z.levels i h) in
-    rw (digit_div i j levels_max l, digit_mod i j levels_max l, get_or-set_same st.works i (set row j work) [] x, get_or-set_same row j work no_work y) w
+    rw (get_or-set_same st.works i (set row j work) [] x, get_or-set_same row j work no_work y) w
 
 -- Where the B lines of a job are sound, their times are at least 1.
 module _ (i : ℕ) (few : i < jobs_max) where
   pub work_timed : (n j : ℕ) (r : Rest) (st : Store) → j + n ≤ levels_max → Sized st.works → (end : Rest) →
-      (block_from WorkKind (i * levels_max) n j r st).read ≡ Ok end → (b : ℕ) → j ≤ b → b < j + n →
-      Timed (block_from WorkKind (i * levels_max) n j r st).store i b
-  unfolding block_from
+      (block_in_row WorkKind i n j r st).read ≡ Ok end → (b : ℕ) → j ≤ b → b < j + n → Timed (block_in_row WorkKind i n j r st).store i b
+  unfolding block_in_row
   work_timed zero j r st h z end = λ e b lo hi. absurd (omega arith)
   work_timed (suc n) j r st h z end =
       let read = fields_for WorkKind j in
       after_cases (λ (f : Found). f.read ≡ Ok end → (b : ℕ) → j ≤ b → b < j + suc n → Timed f.store i b) (next_by read r) _ _ (λ f q e. absurd cc)
       (λ line q e b lo hi.
       let s = says WorkKind j _ line.0 (line_read read r line q).says in
-      let new = put (i * levels_max + j) line.0 st in
+      let new = put_at i j line.0 st in
       let now : Timed new i j = rw s.1 (put_timed i j s.0 st few (omega arith) z s.3) in
-      let sized : Sized new.works = rw s.1 (put_sized (i * levels_max + j) s.0 st z) in
+      let sized : Sized new.works = rw s.1 (put_sized i j s.0 st z) in
       elim (ℕ_discrete b j) [
-        | yes d ↦ rw d (block_stays WorkKind (i * levels_max) n (j + 1) line.1 new i j now)
+        | yes d ↦ rw d (block_stays WorkKind i n (j + 1) line.1 new i j now)
         | no d ↦ work_timed n (j + 1) line.1 new (omega arith) sized end e b (omega arith) (omega arith)
       ])
+
+  pub block_from_timed : (n j : ℕ) (r : Rest) (st : Store) → j + n ≤ levels_max → Sized st.works → (end : Rest) →
+      (block_from WorkKind (i * levels_max) n j r st).read ≡ Ok end → (b : ℕ) → j ≤ b → b < j + n →
+      Timed (block_from WorkKind (i * levels_max) n j r st).store i b
+  block_from_timed n j r st h = rw (block_from_row WorkKind i n j r st h) (work_timed n j r st h)

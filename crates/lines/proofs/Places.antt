@@ -1,6 +1,6 @@
 -- Where the reading of a block of lines stops: its line, and the field of its fault.
 -- Assumes nothing.
-use mathlib.Core.Path.{◌≡◌}
+use mathlib.Core.Path.{◌≡◌, refl, sym, ◌∙◌}
 use mathlib.Core.List.{List}
 use Prim.Native.Nat.{ℕ, zero, suc, ◌+◌, ◌≤◌}
 use native.Mathlib.Omega.{arith}
@@ -22,6 +22,7 @@ use Rattle.reading.specs.declared.LineFault.{LineFault}
 use Rattle.reading.specs.Rest.{Rest, next_by}
 use Rattle.reading.proofs.Next.{line_read, line_fault}
 use Rattle.lines.specs.Lines.{Found, stop, block_from}
+use Rattle.lines.proofs.Rows.{block_in_row}
 
 -- A line of a kind.
 for_field : (kind : Kind) (j : ℕ) (line : List ℕ) → FieldLe (fields_for kind j line)
@@ -55,14 +56,29 @@ module _ (most : ℕ) (st : Store) where
       }
 
 -- A block of n lines.
-pub block_placed : (kind : Kind) (b n j : ℕ) (r : Rest) (st : Store) → Placed (r.line + n) (block_from kind b n j r st)
+pub block_from_placed : (kind : Kind) (b n j : ℕ) (r : Rest) (st : Store) → Placed (r.line + n) (block_from kind b n j r st)
 unfolding block_from
-block_placed kind b zero j r st = placed_end _ st r (omega arith)
-block_placed kind b (suc n) j r st =
+block_from_placed kind b zero j r st = placed_end _ st r (omega arith)
+block_from_placed kind b (suc n) j r st =
     after_cases (Placed (r.line + suc n)) (next_by (fields_for kind j) r) _ _
     (λ f e. let p = line_fault (fields_for kind j) r f (for_field kind j (until 10 r.text)) e in placed_stop _ st f (omega (arith, p.line)) p.field)
     (λ line e.
-    let next = block_placed kind b n (j + 1) line.1 (put (b + j) line.0 st) in
+    let next = block_from_placed kind b n (j + 1) line.1 (put (b + j) line.0 st) in
     let p = line_read (fields_for kind j) r line e in
     let q : line.1.line + n ≡ r.line + suc n = rw p.rest (omega arith) in
     rw q at next)
+
+-- The same of a block by row: what is read is the same wherever it is put.
+pub block_read : (kind : Kind) (i b n j : ℕ) (r : Rest) (p q : Store) → (block_in_row kind i n j r p).read ≡ (block_from kind b n j r q).read
+unfolding block_in_row block_from
+block_read kind i b zero j r p q = refl
+block_read kind i b (suc n) j r p q =
+    after_cases (λ (f : Found). f.read ≡ (block_from kind b (suc n) j r q).read) (next_by (fields_for kind j) r) _ _
+    (λ f e. rw e refl)
+    (λ line e. rw e (block_read kind i b n (j + 1) line.1 _ _))
+
+pub block_placed : (kind : Kind) (i n j : ℕ) (r : Rest) (st : Store) → Placed (r.line + n) (block_in_row kind i n j r st)
+block_placed kind i n j r st =
+    let z = block_from_placed kind 0 n j r st in
+    let same = sym (block_read kind i 0 n j r st st) in
+    record { line = λ q e. z.line q (same ∙ e); fault = λ q e. z.fault q (same ∙ e) }

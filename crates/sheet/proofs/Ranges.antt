@@ -17,7 +17,7 @@ use Rattle.reading.specs.declared.LineFault.{LineFault}
 use Rattle.reading.specs.Rest.{Rest, next_by}
 use Rattle.line_kinds.specs.declared.Kind.TheVariants.{Level, Change, Work}
 use Rattle.lines.specs.Lines.{Found, stop, block_from}
-use Rattle.lines.proofs.Kept.{Kept, kept_clear, block_kept, Timed, block_stays, work_timed}
+use Rattle.lines.proofs.Kept.{Kept, kept_clear, block_from_kept, Timed, block_from_stays, block_from_timed}
 use Rattle.body.specs.Body.{onward, changes_from, jobs_from, body_from}
 use Rattle.refusal.specs.declared.Refusal.{Refusal}
 use Rattle.head.proofs.Head.{InRange}
@@ -42,7 +42,7 @@ module _ (resistance m l : ℕ) (jobs : m ≤ jobs_max) (few : l ≤ levels_max)
   changes_kept zero p r st z = z
   changes_kept (suc n) p r st z =
       let f = block_from (Change p) (p * levels_max) l 0 r st in
-      let y = block_kept resistance (Change p) (p * levels_max) l 0 (refl, omega arith) r st z in
+      let y = block_from_kept resistance (Change p) (p * levels_max) l 0 (refl, omega arith) r st z in
       after_cases (λ (g : Found). Kept resistance g.store) f.read _ _ (λ e q. y) (λ end q. changes_kept n (p + 1) end f.store y)
 
   -- The lines of the next n jobs, with the times of i jobs in the store.
@@ -55,14 +55,14 @@ module _ (resistance m l : ℕ) (jobs : m ≤ jobs_max) (few : l ≤ levels_max)
       after_cases P (next_by name_fault r) _ _ (λ e q. stopped st e z)
       (λ name q.
       let f = block_from Work (i * levels_max) l 0 name.1 st in
-      let y = block_kept resistance Work (i * levels_max) l 0 tt name.1 st z in
+      let y = block_from_kept resistance Work (i * levels_max) l 0 tt name.1 st z in
       after_cases P f.read _ _ (λ e s. stopped f.store e y)
       (λ end s. jobs_filled n (i + 1) end f.store (omega arith) y
       (λ a j x u. elim (dec_lt a i) [
-        | yes d ↦ block_stays Work (i * levels_max) l 0 name.1 st a j (w a j d u)
+        | yes d ↦ block_from_stays Work (i * levels_max) l 0 name.1 st a j (w a j d u)
         | no d ↦
             let q : a ≡ i = omega arith in
-            rw q (work_timed i (omega arith) l 0 name.1 st (omega arith) z.sized end s j (omega arith) (omega arith))
+            rw q (block_from_timed i (omega arith) l 0 name.1 st (omega arith) z.sized end s j (omega arith) (omega arith))
       ])))
 
   -- All of them.
@@ -70,7 +70,7 @@ module _ (resistance m l : ℕ) (jobs : m ≤ jobs_max) (few : l ≤ levels_max)
   unfolding body_from
   body_filled r st z =
       let f = block_from (Level resistance) 0 l 0 r st in
-      let y = block_kept resistance (Level resistance) 0 l 0 refl r st z in
+      let y = block_from_kept resistance (Level resistance) 0 l 0 refl r st z in
       let g = onward f (changes_from l l 0) in
       let w = after_cases (λ (h : Found). Kept resistance h.store) f.read _ _ (λ e q. y) (λ end q. changes_kept l 0 end f.store y) in
       after_cases (Filled resistance m l) g.read _ _ (λ e q. stopped g.store e w)
