@@ -100,16 +100,16 @@ says WorkKind j line entry e =
     )
 
 -- What is kept from line to line holds after a block of lines, whether it is sound or not.
-module _ (P : Store → Type 0) (kind : Kind) (b all : ℕ)
-    (one : (j : ℕ) (entry : Entry) (st : Store) → j < all → Says kind j entry → P st → P (put (b + j) entry st)) where
-  block_keeps : (n j : ℕ) (r : Rest) (st : Store) → j + n ≤ all → P st → P (block_from kind b n j r st).store
+module _ (P : Store → Type 0) (kind : Kind) (b : ℕ)
+    (one : (j : ℕ) (entry : Entry) (st : Store) → Says kind j entry → P st → P (put (b + j) entry st)) where
+  block_keeps : (n j : ℕ) (r : Rest) (st : Store) → P st → P (block_from kind b n j r st).store
   unfolding block_from
-  block_keeps zero j r st l h = h
-  block_keeps (suc n) j r st l h =
+  block_keeps zero j r st h = h
+  block_keeps (suc n) j r st h =
       after_cases (λ (f : Found). P f.store) (next_by (fields_for kind j) r) _ _ (λ f e. h)
       (λ line e.
       let s = says kind j _ line.0 (line_read (fields_for kind j) r line e).says in
-      block_keeps n (j + 1) line.1 _ (omega arith) (one j line.0 st (omega arith) s h))
+      block_keeps n (j + 1) line.1 _ (one j line.0 st s h))
 
 -- The same of a block by row.
 module _ (P : Store → Type 0) (kind : Kind) (i : ℕ)
@@ -227,16 +227,16 @@ put_kept resistance (ChangeKind p) h i j entry st s z =
     (record {
       sized = z.sized;
       power = z.power;
-      change = λ a b. at_put (Changed a b) st.changes p j a b s.0 no_change (z.change a b) (λ e d. rw (e, d) s.2);
+      change = λ a b. at_put (Changed a b) st.changes _ j a b s.0 no_change (z.change a b) (λ e d. rw (e, d) s.2);
       work = z.work;
     })
 put_kept resistance WorkKind h i j entry st s z =
     rw s.1
     (record {
-      sized = put_sized i j s.0 st z.sized;
+      sized = put_sized _ j s.0 st z.sized;
       power = z.power;
       change = z.change;
-      work = λ a b. at_put Worked st.works i j a b s.0 no_work (z.work a b) (λ e d. s.2);
+      work = λ a b. at_put Worked st.works _ j a b s.0 no_work (z.work a b) (λ e d. s.2);
     })
 
 -- A block by row, however many its lines.
@@ -285,13 +285,13 @@ pub block_from_kept : (resistance : ℕ) (kind : Kind) (b n j : ℕ) → Belong 
     Kept resistance st → Kept resistance (block_from kind b n j r st).store
 unfolding put put_at
 block_from_kept resistance (LevelKind own) b n j h r st z =
-    block_keeps (Kept resistance) (LevelKind own) b (j + n)
-    (λ k entry old l s. rw s.1 (put_kept resistance (LevelKind own) h 0 (b + k) (LevelEntry s.0) old (s.0, refl, s.2))) n j r st (omega arith) z
+    block_keeps (Kept resistance) (LevelKind own) b
+    (λ k entry old s. rw s.1 (put_kept resistance (LevelKind own) h 0 (b + k) (LevelEntry s.0) old (s.0, refl, s.2))) n j r st z
 block_from_kept resistance (ChangeKind p) b n j h r st z =
     rw (h.0, block_from_row (ChangeKind p) 0 n j r st h.1) (block_kept resistance (ChangeKind p) tt 0 n j r st z)
 block_from_kept resistance WorkKind b n j h r st z =
-    block_keeps (Kept resistance) WorkKind b (j + n)
-    (λ k entry old l s. let w = put_place (b + k) entry old in rw w.2 (put_kept resistance WorkKind tt w.0 w.1 entry old s)) n j r st (omega arith) z
+    block_keeps (Kept resistance) WorkKind b
+    (λ k entry old s. let w = put_place (b + k) entry old in rw w.2 (put_kept resistance WorkKind tt w.0 w.1 entry old s)) n j r st z
 
 -- ---- the lower end of a job's time
 
@@ -306,14 +306,14 @@ put_stays (LevelKind r) i k a b j entry st s h = rw s.1 h
 put_stays (ChangeKind p) i k a b j entry st s h = rw s.1 h
 put_stays WorkKind i k a b j entry st s h = rw s.1 (at_put (λ (w : Work). 1 ≤ w.time) st.works i k a b s.0 no_work h (λ e d. s.3))
 
--- So does no block, by row or from a place on.
+-- Nor does a block, by row or from a place on.
 pub block_stays : (kind : Kind) (i n j : ℕ) (r : Rest) (st : Store) (a b : ℕ) → Timed st a b → Timed (block_in_row kind i n j r st).store a b
 block_stays kind i n j r st a b = row_keeps (λ s. Timed s a b) kind i (λ k. put_stays kind (row_of kind i) k a b k) n j r st
 
 pub block_from_stays : (kind : Kind) (b n j : ℕ) (r : Rest) (st : Store) (a c : ℕ) → Timed st a c → Timed (block_from kind b n j r st).store a c
 block_from_stays kind b n j r st a c =
-    block_keeps (λ s. Timed s a c) kind b (j + n)
-    (λ k entry old l s h. let w = put_place (b + k) entry old in rw w.2 (put_stays kind w.0 w.1 a c k entry old s h)) n j r st (omega arith)
+    block_keeps (λ s. Timed s a c) kind b
+    (λ k entry old s h. let w = put_place (b + k) entry old in rw w.2 (put_stays kind w.0 w.1 a c k entry old s h)) n j r st
 
 -- A time that was put is there.
 put_timed : (i j : ℕ) (work : Work) (st : Store) → i < jobs_max → j < levels_max → Sized st.works → 1 ≤ work.time →

@@ -17,7 +17,8 @@ use Rattle.line_kinds.specs.Figures.{fields_for}
 use Rattle.reading.specs.Rest.{Rest, next_by}
 use Rattle.lines.specs.Lines.{Found, stop}
 
--- The row of a kind's lines: L lines have one, S lines that of the level left, B lines that of job i. For the others i counts nothing.
+-- The row of a kind's lines (document 01, 'The sheet'): L lines have one; S lines, "by level left and then level entered", that of the level
+-- left; B lines, "For each job", that of job i. For the others i counts nothing.
 abbrev pub row_of : Kind → ℕ → ℕ
 row_of (LevelKind resistance) i = 0
 row_of (ChangeKind p) i = p
